@@ -1,0 +1,4 @@
+pub mod Fraction
+pub mod Number
+pub mod Sum
+pub mod Surd

@@ -1,0 +1,17 @@
+pub mod Bools
+pub mod Lists
+pub mod Solid
+pub mod Coefficients
+pub mod WholeForm
+pub mod ExactForce
+pub mod Bounds
+pub mod Sections
+pub mod Forces
+pub mod Moments
+pub mod Reorder
+pub mod Rows
+pub mod Samples
+pub mod Examples
+pub mod FileRefusals
+pub mod FileLength
+pub mod HostCall

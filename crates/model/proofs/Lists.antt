@@ -1,0 +1,109 @@
+-- Sums over lists and over indices; tests over lists; nothing of it depends on the order.
+use Prim.Native.Nat.{ℕ, zero, suc, _+_, _*_, _≤_, _<_}
+use mathlib.Core.Path.{_≡_, refl, ap, _∙_}
+use mathlib.Core.Bool.{Bool, true, false}
+use mathlib.Core.List.{List, [], _∷_, _++_, List·Permᴰ, List·Permᴰ·nil, List·Permᴰ·cons, List·Permᴰ·swap, List·Permᴰ·trans, Forall₂, Forall₂·nil, Forall₂·cons}
+use native.Mathlib.Numerals.{add-one}
+use native.Mathlib.Omega.{arith}
+use lib.ListN.{length, getD, take, length-append}
+use lib.Seq.{take-suc}
+use Rattle.model.specs.Lists.{anyOf, allOf, sumBy, sumTo, listTo}
+use Rattle.model.proofs.Bools.{and-split, or-split}
+
+module _ {A : Type 0} (f : A → ℕ) where
+  pub sumBy-none : sumBy f [] ≡ 0
+  unfolding sumBy
+  sumBy-none = refl
+
+  pub sumBy-append : (xs ys : List A) → sumBy f (xs ++ ys) ≡ sumBy f xs + sumBy f ys
+  unfolding sumBy
+  sumBy-append [] ys = omega arith
+  sumBy-append (x ∷ xs) ys = omega (arith, sumBy-append xs ys)
+
+  sumBy-one : (x : A) → sumBy f (x ∷ []) ≡ f x
+  unfolding sumBy
+  sumBy-one x = omega arith
+
+  -- one turn of a loop over an array
+  pub sumBy-more : (l : List A) (i : ℕ) (d : A) → i < length l → sumBy f (take (i + 1) l) ≡ sumBy f (take i l) + f (getD l i d)
+  sumBy-more l i d h = rw (add-one, take-suc l i d h, sumBy-append, sumBy-one)
+
+  -- n terms of at most b each
+  pub sumBy-bound : (p : A → Bool) (b : ℕ) → ((x : A) → p x ≡ true → f x ≤ b) → (l : List A) → allOf p l ≡ true → sumBy f l ≤ length l * b
+  unfolding sumBy
+  sumBy-bound p b h [] t = omega arith
+  sumBy-bound p b h (x ∷ xs) t =
+      let g : _ = and-split (p x) (allOf p xs) t in
+      omega (arith, h x (g .0), sumBy-bound p b h xs (g .1))
+
+  -- the order of the list does not matter
+  pub sumBy-perm : {xs ys : List A} → List·Permᴰ xs ys → sumBy f xs ≡ sumBy f ys
+  unfolding sumBy
+  sumBy-perm List·Permᴰ·nil = refl
+  sumBy-perm (List·Permᴰ·cons e p) = omega (arith, ap f e, sumBy-perm p)
+  sumBy-perm (List·Permᴰ·swap e g) = omega (arith, ap f e, ap f g)
+  sumBy-perm (List·Permᴰ·trans p q) = sumBy-perm p ∙ sumBy-perm q
+
+pub length-perm : {A : Type 0} {xs ys : List A} → List·Permᴰ xs ys → length xs ≡ length ys
+length-perm List·Permᴰ·nil = refl
+length-perm (List·Permᴰ·cons e p) = omega (arith, length-perm p)
+length-perm (List·Permᴰ·swap e g) = refl
+length-perm (List·Permᴰ·trans p q) = length-perm p ∙ length-perm q
+
+-- sums over indices
+pub sumTo-none : (f : ℕ → ℕ) → sumTo f 0 ≡ 0
+unfolding sumTo
+sumTo-none f = refl
+
+pub sumTo-more : (f : ℕ → ℕ) (n : ℕ) → sumTo f (n + 1) ≡ sumTo f n + f n
+unfolding sumTo
+sumTo-more f n = rw add-one
+
+pub sumTo-bound : (f : ℕ → ℕ) (b n : ℕ) → ((i : ℕ) → i < n → f i ≤ b) → sumTo f n ≤ n * b
+unfolding sumTo
+sumTo-bound f b zero h = omega arith
+sumTo-bound f b (suc n) h = omega (arith, sumTo-bound f b n (λ i q. h i (omega arith)), h n (omega arith))
+
+pub sumTo-same : (f g : ℕ → ℕ) (n : ℕ) → ((i : ℕ) → i < n → f i ≡ g i) → sumTo f n ≡ sumTo g n
+unfolding sumTo
+sumTo-same f g zero h = refl
+sumTo-same f g (suc n) h = omega (arith, sumTo-same f g n (λ i q. h i (omega arith)), h n (omega arith))
+
+pub sumTo-ones : (n : ℕ) → sumTo (λ _. 1) n ≡ n
+unfolding sumTo
+sumTo-ones zero = refl
+sumTo-ones (suc n) = omega (arith, sumTo-ones n)
+
+-- lists over indices
+pub length-listTo : {A : Type 0} (f : ℕ → A) (n : ℕ) → length (listTo f n) ≡ n
+unfolding listTo
+length-listTo f zero = refl
+length-listTo f (suc n) = omega (arith, length-append (listTo f n) (f n ∷ []), length-listTo f n)
+
+forall-append : {A B : Type 0} {R : A → B → Type 0} {xs : List A} {ys : List B} {a : A} {b : B}
+    → Forall₂ R xs ys → R a b → Forall₂ R (xs ++ (a ∷ [])) (ys ++ (b ∷ []))
+forall-append Forall₂·nil r = Forall₂·cons r Forall₂·nil
+forall-append (Forall₂·cons h hs) r = Forall₂·cons h (forall-append hs r)
+
+pub forall-listTo : {A B : Type 0} {R : A → B → Type 0} (f : ℕ → A) (g : ℕ → B) (n : ℕ)
+    → ((i : ℕ) → i < n → R (f i) (g i)) → Forall₂ R (listTo f n) (listTo g n)
+unfolding listTo
+forall-listTo f g zero h = Forall₂·nil
+forall-listTo f g (suc n) h = forall-append (forall-listTo f g n (λ i q. h i (omega arith))) (h n (omega arith))
+
+-- what holds of all, and of the default, holds of each that is read
+pub getD-all : {A : Type 0} (p : A → Bool) (l : List A) (i : ℕ) (d : A) → allOf p l ≡ true → p d ≡ true → p (getD l i d) ≡ true
+getD-all p [] i d h g = g
+getD-all p (x ∷ xs) zero d h g = and-split (p x) (allOf p xs) h .0
+getD-all p (x ∷ xs) (suc i) d h g = getD-all p xs i d (and-split (p x) (allOf p xs) h .1) g
+
+-- a test that holds of all holds of each; one that holds of none fails of each
+pub all-at : {A : Type 0} (p : A → Bool) (l : List A) (i : ℕ) (d : A) → i < length l → allOf p l ≡ true → p (getD l i d) ≡ true
+all-at p [] i d h t = absurd (omega arith)
+all-at p (x ∷ xs) zero d h t = and-split (p x) (allOf p xs) t .0
+all-at p (x ∷ xs) (suc i) d h t = all-at p xs i d (omega arith) (and-split (p x) (allOf p xs) t .1)
+
+pub none-at : {A : Type 0} (p : A → Bool) (l : List A) (i : ℕ) (d : A) → i < length l → anyOf p l ≡ false → p (getD l i d) ≡ false
+none-at p [] i d h t = absurd (omega arith)
+none-at p (x ∷ xs) zero d h t = or-split (p x) (anyOf p xs) t .0
+none-at p (x ∷ xs) (suc i) d h t = none-at p xs i d (omega arith) (or-split (p x) (anyOf p xs) t .1)

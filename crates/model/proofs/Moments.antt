@@ -1,0 +1,160 @@
+-- Arms, shears and moments: how they grow from one foot to the next, their bounds, and their excess over the exact ones.
+use Prim.Native.Nat.{ℕ, zero, suc, _+_, _*_, _-_, _/_, _^_, _≤_, _<_}
+use mathlib.Core.Path.{_≡_, refl, ap, sym, _∙_, subst}
+use mathlib.Core.List.{List, [], _∷_, _++_, Forall₂}
+use native.Mathlib.Omega.{arith}
+use native.Mathlib.Nat.{mul-le-mul}
+use lib.ListN.{length}
+use Rattle.exact.specs.Fraction.{whole}
+use Rattle.exact.specs.Sum.{Term, Low, High, weighted, arms, ExcessBelow}
+use Rattle.exact.proofs.Arithmetic.{whole-proper}
+use Rattle.exact.proofs.Sums.{Reported, excess-below}
+use Rattle.model.specs.Lists.{sumTo, listTo}
+use Rattle.model.specs.Tower.{Tower, Wind}
+use Rattle.model.specs.Report.{heightAt, exactAt, forceAt, arm, shearAt, momentAt, shearTerms, momentTerms, armsTo}
+use Rattle.model.specs.Valid.{ValidWind}
+use Rattle.model.proofs.Lists.{sumTo-none, sumTo-more, sumTo-same, sumTo-bound, sumTo-ones, length-listTo, forall-listTo}
+use Rattle.model.proofs.Forces.{height-at, sound-at, nonneg-at, force-least, force-within, force-bound}
+
+-- arms
+module _ (height : ℕ → ℕ) where
+  pub arm-own : (n : ℕ) → arm height n (n + 1) ≡ height n / 2
+  unfolding arm
+  arm-own n =
+      let e : n + 1 - suc n ≡ 0 = omega arith in
+      rw e (omega (arith, sumTo-none (λ m. height (suc n + m))))
+
+  pub arm-more : (j n : ℕ) → j < n → arm height j (n + 1) ≡ arm height j n + height n
+  unfolding arm
+  arm-more j n q =
+      let e : n + 1 - suc j ≡ n - suc j + 1 = omega arith in
+      let d : suc j + (n - suc j) ≡ n = omega arith in
+      rw e (omega (arith, sumTo-more (λ m. height (suc j + m)) (n - suc j), ap height d))
+
+  pub arm-positive : (j n : ℕ) → 2 ≤ height j → 0 < arm height j n
+  unfolding arm
+  arm-positive j n h = omega arith
+
+  -- an arm is at most the height down to the foot
+  pub arm-bound : (b j n : ℕ) → j < n → ((i : ℕ) → i < n → height i ≤ b) → arm height j n ≤ n * b
+  unfolding arm
+  arm-bound b j n q h =
+      let below : sumTo (λ m. height (suc j + m)) (n - suc j) ≤ (n - suc j) * b =
+      sumTo-bound (λ m. height (suc j + m)) b (n - suc j) (λ m r. h (suc j + m) (omega arith)) in
+      let own : height j ≤ b = h j q in
+      let more : (n - suc j + 1) * b ≤ n * b = mul-le-mul {n₁ = n - suc j + 1} {m₁ = b} {n₂ = n} {m₂ = b} (omega arith) (omega arith) in
+      omega arith
+
+  -- a sum of products with longer arms
+  stretch : (f a b : ℕ → ℕ) (x n : ℕ) → ((j : ℕ) → j < n → b j ≡ a j + x)
+      → sumTo (λ j. f j * b j) n ≡ sumTo (λ j. f j * a j) n + sumTo f n * x
+  unfolding sumTo
+  stretch f a b x zero h = omega arith
+  stretch f a b x (suc n) h = omega (arith, stretch f a b x n (λ j q. h j (omega arith)), ap (λ y. f n * y) (h n (omega arith)))
+
+module _ (t : Tower) (w : Wind) where
+  pub shear-none : shearAt t w 0 ≡ 0
+  unfolding shearAt
+  shear-none = sumTo-none (forceAt t w)
+
+  pub shear-more : (n : ℕ) → shearAt t w (n + 1) ≡ shearAt t w n + forceAt t w n
+  unfolding shearAt
+  shear-more n = sumTo-more (forceAt t w) n
+
+  pub moment-none : momentAt t w 0 ≡ 0
+  unfolding momentAt
+  moment-none = sumTo-none (λ j. forceAt t w j * arm (heightAt t) j 0)
+
+  -- from one foot to the next: the shear times the height, and the force times half of it
+  pub moment-more : (n : ℕ)
+      → momentAt t w (n + 1) ≡ momentAt t w n + shearAt t w n * heightAt t n + forceAt t w n * (heightAt t n / 2)
+  unfolding momentAt shearAt
+  moment-more n =
+      let f : ℕ → ℕ = forceAt t w in
+      let g : ℕ → ℕ = heightAt t in
+      omega (
+        arith,
+        sumTo-more (λ j. f j * arm g j (n + 1)) n,
+        stretch g f (λ j. arm g j n) (λ j. arm g j (n + 1)) (g n) n (λ j q. arm-more g j n q),
+        ap (λ y. f n * y) (arm-own g n),
+      )
+
+-- sums over lists of terms are sums over indices
+weighted-append : (ns : List ℕ) (ts : List Term) (n : ℕ) (x : Term) → length ns ≡ length ts
+    → weighted (ns ++ (n ∷ [])) (ts ++ (x ∷ [])) ≡ weighted ns ts + n * x .arm
+unfolding weighted
+weighted-append [] [] n x e = omega arith
+weighted-append [] (y ∷ ts) n x e = absurd (omega arith)
+weighted-append (m ∷ ns) [] n x e = absurd (omega arith)
+weighted-append (m ∷ ns) (y ∷ ts) n x e = omega (arith, weighted-append ns ts n x (omega arith))
+
+arms-append : (ts : List Term) (x : Term) → arms (ts ++ (x ∷ [])) ≡ arms ts + x .arm
+unfolding arms
+arms-append [] x = omega arith
+arms-append (y ∷ ts) x = omega (arith, arms-append ts x)
+
+module _ (f : ℕ → ℕ) (x : ℕ → Term) where
+  weighted-listTo : (n : ℕ) → weighted (listTo f n) (listTo x n) ≡ sumTo (λ j. f j * x j .arm) n
+  unfolding listTo sumTo weighted
+  weighted-listTo zero = refl
+  weighted-listTo (suc n) =
+      omega (arith, weighted-append (listTo f n) (listTo x n) (f n) (x n) (length-listTo f n ∙ sym (length-listTo x n)), weighted-listTo n)
+
+  arms-listTo : (n : ℕ) → arms (listTo x n) ≡ sumTo (λ j. x j .arm) n
+  unfolding listTo sumTo arms
+  arms-listTo zero = refl
+  arms-listTo (suc n) = omega (arith, arms-append (listTo x n) (x n), arms-listTo n)
+
+  -- the excess of a weighted sum, from the band of each number
+  sum-excess : (margin n : ℕ) → 0 < n → ((j : ℕ) → j < n → Reported margin (f j) (x j))
+      → ExcessBelow (listTo x n) (sumTo (λ j. f j * x j .arm) n) (margin * sumTo (λ j. x j .arm) n)
+  sum-excess margin n p h =
+      let e : 0 < length (listTo x n) = rw (length-listTo x n) p in
+      rw (← weighted-listTo n, ← arms-listTo n) (excess-below e (forall-listTo f x n h))
+
+module _ (t : Tower) (w : Wind) (v : ValidWind t w) (n : ℕ) (within : n ≤ length (t .sections)) where
+  reported-at : (margin : ℕ) → 0 < margin → (a : ℕ → ℕ) → ((j : ℕ) → j < n → 0 < a j)
+      → (j : ℕ) → j < n → Reported margin (forceAt t w j) (record { exact = exactAt t w j; arm = a j })
+  reported-at margin p a ha j q =
+      record { sound = sound-at t w v j (omega arith); within = force-within t w v j (omega arith) margin p; arm = ha j q }
+
+  -- the excess of a shear is never negative and below the margin times the sections down to the foot
+  pub shear-excess : (margin : ℕ) → 0 < margin → 0 < n → ExcessBelow (shearTerms t w n) (shearAt t w n) (margin * n)
+  unfolding shearTerms shearAt
+  shear-excess margin p q =
+      let e : sumTo (λ j. forceAt t w j * 1) n ≡ sumTo (forceAt t w) n = sumTo-same _ _ n (λ j r. omega arith) in
+      rw (← e)
+      (subst (λ (k : ℕ). ExcessBelow (listTo (λ j. record { exact = exactAt t w j; arm = 1 }) n) (sumTo (λ j. forceAt t w j * 1) n) (margin * k))
+      (sumTo-ones n)
+      (sum-excess (forceAt t w) (λ j. record { exact = exactAt t w j; arm = 1 }) margin n q
+      (reported-at margin p (λ _. 1) (λ j r. omega arith))))
+
+  -- the excess of a moment is never negative and below the margin times the sum of its arms
+  pub moment-excess : (margin : ℕ) → 0 < margin → 0 < n → ExcessBelow (momentTerms t w n) (momentAt t w n) (margin * armsTo t n)
+  unfolding momentTerms momentAt armsTo
+  moment-excess margin p q =
+      sum-excess (forceAt t w) (λ j. record { exact = exactAt t w j; arm = arm (heightAt t) j n }) margin n q
+      (reported-at margin p (λ j. arm (heightAt t) j n)
+      (λ j r. arm-positive (heightAt t) j n (let k : _ = height-at t w v j (omega arith) in omega arith)))
+
+  -- the statements are about something: each term has fractions on either side
+  pub lows : (a : ℕ → ℕ) → Forall₂ Low (listTo (λ j. whole 0) n) (listTo (λ j. record { exact = exactAt t w j; arm = a j }) n)
+  lows a = forall-listTo _ _ n (λ j q. record { proper = whole-proper 0; atMost = nonneg-at t w v j (omega arith) })
+
+  pub highs : (a : ℕ → ℕ) → Forall₂ High (listTo (λ j. whole (forceAt t w j)) n) (listTo (λ j. record { exact = exactAt t w j; arm = a j }) n)
+  highs a =
+      forall-listTo _ _ n
+      (λ j q. record { proper = whole-proper _; atLeast = force-least t w v j (omega arith) .enough })
+
+  -- the largest sums
+  pub shear-bound : shearAt t w n ≤ n * 2 ^ 27
+  unfolding shearAt
+  shear-bound = sumTo-bound (forceAt t w) (2 ^ 27) n (λ j q. force-bound t w v j (omega arith))
+
+  pub moment-bound : momentAt t w n ≤ n * (2 ^ 27 * (n * 10_000))
+  unfolding momentAt
+  moment-bound =
+      sumTo-bound _ _ n
+      (λ j q.
+      mul-le-mul {n₂ = 2 ^ 27} {m₂ = n * 10_000} (force-bound t w v j (omega arith))
+      (arm-bound (heightAt t) 10_000 j n q (λ i r. height-at t w v i (omega arith) .high)))

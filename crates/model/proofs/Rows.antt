@@ -1,0 +1,32 @@
+-- The rows: six numbers a section, one row behind the other.
+use Prim.Native.Nat.{ℕ, zero, suc, _+_, _*_, _≤_}
+use mathlib.Core.Path.{_≡_, refl}
+use mathlib.Core.List.{List, _++_}
+use mathlib.Core.Option.{some}
+use native.Mathlib.Numerals.{add-one}
+use native.Mathlib.Omega.{arith}
+use lib.ListN.{length, drop, length-append}
+use borrow.Author.Tests.{le-ltb}
+use Rattle.model.specs.Tower.{Tower, Wind}
+use Rattle.model.specs.Report.{rowAt, rowsTo, rowsOf}
+use Rattle.model.specs.Machine.{standing, filled, reportOut}
+
+module _ (t : Tower) (w : Wind) where
+  pub length-row : (i : ℕ) → length (rowAt t w i) ≡ 6
+  unfolding rowAt
+  length-row i = refl
+
+  pub rows-more : (n : ℕ) → rowsTo t w (n + 1) ≡ rowsTo t w n ++ rowAt t w n
+  unfolding rowsTo
+  rows-more n = rw add-one
+
+  pub length-rows : (n : ℕ) → length (rowsTo t w n) ≡ 6 * n
+  unfolding rowsTo
+  length-rows zero = refl
+  length-rows (suc n) = omega (arith, length-append (rowsTo t w n) (rowAt t w n), length-rows n, length-row n)
+
+  -- an accepted report: the rows, and then the rest of the lent slice as it was
+  pub report-rows : (lent : List ℕ) → 6 * length (t .sections) ≤ length lent
+      → reportOut (standing t (some w)) lent ≡ rowsOf t w ++ drop (6 * length (t .sections)) lent
+  unfolding filled
+  report-rows lent h = rw (le-ltb (length lent) (6 * length (t .sections)) h, length-rows (length (t .sections)))

@@ -1,0 +1,96 @@
+-- The starred sample towers, by computing: tests, one law from the tests to the statement, and the table's tests in one run.
+use Prim.Native.Nat.{ℕ, _+_, _-_}
+use mathlib.Core.Path.{_≡_, refl}
+use mathlib.Core.Bool.{Bool, true, not, _&&_}
+use mathlib.Core.List.{List, [], _∷_}
+use lib.Dec.{ltb}
+use native.Mathlib.Omega.{arith}
+use borrow.Author.Tests.{ltb-true, not-true}
+use Rattle.exact.specs.Fraction.{Fraction, _//_, whole, _⊕_, _⊖_, _·_, _≼_, _≼ᵇ_}
+use Rattle.exact.specs.Number.{Exact, _⊞_, _⊙_, square, AtMost, AtLeast, Sound, atLeastᵇ}
+use Rattle.exact.proofs.Order.{≺-not-≽}
+use Rattle.exact.proofs.Arithmetic.{whole-proper}
+use Rattle.exact.proofs.Ceiling.{test-≼, at-least-test, test-at-least, within-large}
+use Rattle.model.proofs.Bools.{clash, and-split}
+use Rattle.model.specs.Lists.{sumBy}
+use Rattle.model.specs.Areas.{groupArea, itemArea, gross, flowOf, areaIn, areasOf, solid}
+use Rattle.model.specs.Force.{m², solidity, C1, C2, c-f, c-c, c-p, K1, K2, quarters, halves, s, Kθ, coefficient, itemPart, itemSum, resistance, exact, exactForce}
+use Rattle.model.specs.Report.{exactAt}
+use Rattle.model.specs.Samples.{towerFor, windFor, exactOf, flat, round, dish, Entry, equals, table, Holds, Every, none, also, OnlyThese, StarredSamples}
+
+-- the tests
+atMostᵇ : Fraction → Exact → Bool
+atMostᵇ x e = (x ≼ᵇ e .rational) && (square e ≼ᵇ (e .rational ⊖ x) · (e .rational ⊖ x))
+
+holds : Entry → Bool
+holds x = atMostᵇ (x .low) (exactOf (x .sample)) && atLeastᵇ (exactOf (x .sample)) (x .high)
+
+all-hold : List Entry → Bool
+all-hold [] = true
+all-hold (x ∷ xs) = holds x && all-hold xs
+
+-- n + 2 and n + 3 are at least the exact force, n and n + 1 are not; and no denominator is 0
+only : Exact → ℕ → Bool
+only e n =
+    atLeastᵇ e (whole (n + 2)) && atLeastᵇ e (whole (n + 3)) && not (atLeastᵇ e (whole n)) && not (atLeastᵇ e (whole (n + 1)))
+    && ltb 0 (e .rational .den) && ltb 0 (e .factor .den) && ltb 0 (e .radicand .den)
+
+-- from the tests to the statement
+at-most : (x : Fraction) (e : Exact) → atMostᵇ x e ≡ true → AtMost x e
+unfolding atMostᵇ
+at-most x e h =
+    let g : _ = and-split (x ≼ᵇ e .rational) _ h in
+    record { under = test-≼ _ _ (g .0); squared = test-≼ _ _ (g .1) }
+
+all-held : (xs : List Entry) → all-hold xs ≡ true → Every Holds xs
+unfolding all-hold holds
+all-held [] h = none
+all-held (x ∷ xs) h =
+    let g : _ = and-split (holds x) (all-hold xs) h in
+    let k : _ = and-split (atMostᵇ (x .low) (exactOf (x .sample))) _ (g .0) in
+    also (record { low = at-most _ _ (k .0); high = test-at-least _ _ (k .1) }) (all-held xs (g .1))
+
+margin-above : (n : ℕ) → whole (n + 2) ⊕ whole 2 ≼ whole (n + 2 + 2)
+unfolding whole _//_ _⊕_
+margin-above n = omega arith
+
+only-these : (e : Exact) (n : ℕ) → only e n ≡ true → OnlyThese e (n + 2)
+unfolding only
+only-these e n h =
+    let p : _ = and-split _ (ltb 0 (e .radicand .den)) h in
+    let f : _ = and-split _ (ltb 0 (e .factor .den)) (p .0) in
+    let g : _ = and-split _ (ltb 0 (e .rational .den)) (f .0) in
+    let i : _ = and-split _ (not (atLeastᵇ e (whole (n + 1)))) (g .0) in
+    let j : _ = and-split _ (not (atLeastᵇ e (whole n))) (i .0) in
+    let k : _ = and-split (atLeastᵇ e (whole (n + 2))) _ (j .0) in
+    let sound : Sound e =
+    record {
+      rational = record { positive = ltb-true _ _ (g .1) };
+      factor = record { positive = ltb-true _ _ (f .1) };
+      radicand = record { positive = ltb-true _ _ (p .1) };
+    } in
+    let two : AtLeast e (whole (n + 2)) = test-at-least _ _ (k .0) in
+    let three : AtLeast e (whole (n + 3)) = test-at-least _ _ (k .1) in
+    let not-zero : AtLeast e (whole n) → ⊥ = λ w. clash (at-least-test w) (not-true _ (j .1)) in
+    let not-one : AtLeast e (whole (n + 1)) → ⊥ = λ w. clash (at-least-test w) (not-true _ (i .1)) in
+    let a : n + 1 + 2 ≡ n + 3 = omega arith in
+    let b : n + 2 + 1 ≡ n + 1 + 2 = omega arith in
+    let c : n + 2 - 1 ≡ n + 1 = omega arith in
+    record {
+      first = within-large sound 2 n two not-zero;
+      second = rw b (within-large sound 2 (n + 1) (rw a three) not-one);
+      none-below = λ w. not-one (rw c at (w .enough));
+      none-above = λ w. ≺-not-≽ _ _ (w .close (whole (n + 2)) (whole-proper (n + 2)) two) (margin-above n);
+    }
+
+pub starred-samples : StarredSamples
+unfolding _//_ whole _⊕_ _⊖_ _·_ _≼ᵇ_ _⊞_ _⊙_ square atLeastᵇ sumBy groupArea itemArea gross flowOf areaIn areasOf solid m² solidity C1 C2 c-f c-c c-p K1 K2 quarters halves s Kθ coefficient itemPart itemSum resistance exact exactForce exactAt towerFor windFor exactOf flat round dish equals table atMostᵇ holds all-hold only
+starred-samples =
+    record {
+      forces = all-held table refl;
+      reported-7033 = only-these _ 7031 refl;
+      reported-4080 = only-these _ 4078 refl;
+      reported-2600 = only-these _ 2598 refl;
+      subcritical-at-1000 = refl;
+      supercritical-at-1001 = refl;
+    }

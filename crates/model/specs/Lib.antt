@@ -1,0 +1,17 @@
+pub mod Lists
+pub mod Ranges
+pub mod Tower
+pub mod Answers
+pub mod Areas
+pub mod Force
+pub mod Reading
+pub mod File
+pub mod Bytes
+pub mod Report
+pub mod Machine
+pub mod Calls
+pub mod Host
+pub mod Valid
+pub mod Samples
+pub mod Examples
+pub mod WholeForm

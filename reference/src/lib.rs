@@ -1,0 +1,24 @@
+//! The independent Rust version of Dembyhai: wind forces on square and
+//! triangular lattice towers.
+//!
+//! It follows document 01 to the letter with exact arithmetic and shares no
+//! code with the proved product, so that tests can compare the two. Document
+//! 01 leaves a force free within `exact <= force < exact + 2`; here it is the
+//! least whole number of newtons that is not below the exact force.
+
+pub mod areas;
+pub mod draw;
+pub mod expected;
+pub mod file;
+pub mod force;
+pub mod host;
+pub mod natural;
+pub mod outputs;
+pub mod rational;
+pub mod refusal;
+pub mod report;
+pub mod rules;
+pub mod service;
+pub mod tower;
+pub mod units;
+pub mod vectors;

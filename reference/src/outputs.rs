@@ -1,0 +1,22 @@
+//! The table of expected outputs, one entry per program crate.
+
+/// One file of a program's folder.
+#[derive(Clone, Debug, PartialEq, Eq)]
+pub struct OutputFile {
+    /// `stdout`, or `stdin` where the program reads.
+    pub name: &'static str,
+    /// All of its bytes.
+    pub bytes: Vec<u8>,
+}
+
+/// What a program is given and has to print.
+#[derive(Clone, Copy, Debug)]
+pub struct Generator {
+    /// The program's folder under `crates`.
+    pub program: &'static str,
+    /// Its files; `stdout` is always among them.
+    pub files: fn() -> Vec<OutputFile>,
+}
+
+/// All programs with an expected output. There is none yet.
+pub const GENERATORS: &[Generator] = &[];

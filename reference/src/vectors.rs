@@ -1,0 +1,259 @@
+//! Cases on which the definitions of document 01 and this version have to
+//! agree: towers under a wind, tower files, and lists of calls.
+
+mod damage;
+mod lists;
+mod table;
+
+use crate::draw::{self, Random};
+use crate::file;
+use crate::refusal::Refusal;
+use crate::report::ROW;
+use crate::service::Service;
+use crate::tower::{Item, Legs, Tower, Wind};
+use std::collections::BTreeMap;
+
+/// What the program prints for `--help`.
+pub const USAGE: &str = "\
+usage: vectors
+       vectors --help
+
+Prints towers, tower files and lists of calls with this version's answers, as
+a table for the definitions. How often each refusal is reached goes to
+standard error; status 1 if one is never reached.
+
+  --help  print this
+";
+
+/// A tower under a wind, and its rows.
+#[derive(Clone, Debug, PartialEq, Eq)]
+pub struct TowerCase {
+    /// The tower.
+    pub tower: Tower,
+    /// An acceptable wind.
+    pub wind: Wind,
+    /// Six numbers per section.
+    pub rows: Vec<u64>,
+}
+
+/// A file, and the number of its refusal.
+#[derive(Clone, Debug, PartialEq, Eq)]
+pub struct FileCase {
+    /// Whole, cut or damaged.
+    pub bytes: Vec<u8>,
+    /// 0 if it is accepted.
+    pub refusal: u32,
+}
+
+/// One of the seven calls with its arguments.
+#[derive(Clone, Debug, PartialEq, Eq)]
+pub enum Call {
+    /// A file.
+    Erect(Vec<u8>),
+    /// An item.
+    Hang(Item),
+    /// An item's number.
+    TakeDown(u16),
+    /// A wind.
+    Wind(Wind),
+    /// The length of the lent slice.
+    Report(usize),
+    /// No argument.
+    Check,
+    /// The length of the lent slice.
+    Write(usize),
+}
+
+/// Calls on a fresh service.
+#[derive(Clone, Debug, PartialEq, Eq)]
+pub struct ListCase {
+    /// The calls in order.
+    pub calls: Vec<Call>,
+    /// For each call the number of its refusal; 0 if it is accepted.
+    pub refusals: Vec<u32>,
+    /// What write gives at the end, empty without a tower.
+    pub file: Vec<u8>,
+}
+
+/// All cases.
+#[derive(Clone, Debug, PartialEq, Eq)]
+pub struct Vectors {
+    /// Towers under a wind.
+    pub towers: Vec<TowerCase>,
+    /// Tower files.
+    pub files: Vec<FileCase>,
+    /// Lists of calls.
+    pub lists: Vec<ListCase>,
+}
+
+/// How often each refusal is reached.
+pub type Counts = BTreeMap<u32, usize>;
+
+impl Vectors {
+    /// The same each time.
+    pub fn all() -> Vectors {
+        Vectors {
+            towers: tower_cases(),
+            files: file_cases(),
+            lists: lists::list_cases(),
+        }
+    }
+
+    /// The table for the definitions.
+    pub fn table(&self) -> String {
+        table::table(self)
+    }
+
+    /// The refusals of the files.
+    pub fn file_refusals(&self) -> Counts {
+        count(self.files.iter().map(|case| case.refusal))
+    }
+
+    /// The refusals of the calls in the lists, but for erect.
+    pub fn call_refusals(&self) -> Counts {
+        let calls = self.lists.iter().flat_map(|case| &case.calls);
+        let refusals = self.lists.iter().flat_map(|case| &case.refusals);
+        let others = calls
+            .zip(refusals)
+            .filter(|(call, _)| !matches!(call, Call::Erect(_)));
+        count(others.map(|(_, &refusal)| refusal))
+    }
+
+    /// Says which refusals no file, and which no call but erect, reaches.
+    pub fn missing(&self) -> Vec<String> {
+        let (files, calls) = (self.file_refusals(), self.call_refusals());
+        let no_file = (2..=13).filter(|number| !files.contains_key(number));
+        let of_calls = [1].into_iter().chain(9..=12).chain(14..=22);
+        let no_call = of_calls.filter(|number| !calls.contains_key(number));
+        no_file
+            .map(|number| format!("no file has refusal {number}"))
+            .chain(no_call.map(|number| format!("no call has refusal {number}")))
+            .collect()
+    }
+}
+
+fn count(refusals: impl Iterator<Item = u32>) -> Counts {
+    let mut counts = Counts::new();
+    for refusal in refusals {
+        *counts.entry(refusal).or_default() += 1;
+    }
+    counts
+}
+
+/// The number of the refusal, or 0.
+fn number<T>(answer: Result<T, Refusal>) -> u32 {
+    answer.map_or_else(Refusal::number, |_| 0)
+}
+
+fn tower_cases() -> Vec<TowerCase> {
+    let mut random = Random(0x5eed_0101);
+    let mut cases = Vec::new();
+    for iced in [false, true] {
+        for legs in [Legs::Three, Legs::Four] {
+            for (tenths, beside) in EXACT_SOLIDITY {
+                cases.push(exact_case(&mut random, iced, legs, tenths, beside));
+            }
+        }
+    }
+    cases.extend((0..132).map(|place| tower_case(&mut random, place)));
+    cases
+}
+
+/// Tenths of A_u, and mm² beside them: the ends of K2's ranges, and a full face.
+const EXACT_SOLIDITY: [(u32, i32); 11] = [
+    (2, -1),
+    (2, 0),
+    (2, 1),
+    (5, -1),
+    (5, 0),
+    (5, 1),
+    (8, -1),
+    (8, 0),
+    (8, 1),
+    (10, -1),
+    (10, 0),
+];
+
+/// One section with this solidity ratio exactly, and a wind across a corner.
+fn exact_case(random: &mut Random, iced: bool, legs: Legs, tenths: u32, beside: i32) -> TowerCase {
+    let ice_class = if iced { random.within(1, 5) } else { 0 };
+    let tower = Tower {
+        legs,
+        sections: vec![draw::exact_section(random, ice_class, tenths, beside)],
+        items: Vec::new(),
+    };
+    let direction = match legs {
+        Legs::Three => random.pick(&[2, 4, 6, 10, 12, 14]),
+        Legs::Four => random.pick(&[1, 2, 3, 4, 5, 9, 15, 21]),
+    };
+    let wind = draw::wind(random, &tower, direction, ice_class);
+    reported(tower, wind)
+}
+
+/// One to three sections and some items; place by place all directions.
+fn tower_case(random: &mut Random, place: u32) -> TowerCase {
+    let (legs, direction) = if place % 2 == 1 {
+        (Legs::Three, place / 2 % 12 * 2)
+    } else {
+        (Legs::Four, place / 2 % 24)
+    };
+    let ice_class = if random.chance(60) {
+        0
+    } else {
+        random.within(1, 5)
+    };
+    let mut sections = Vec::new();
+    for _ in 0..random.within(1, 3) {
+        sections.push(if random.chance(20) {
+            let tenths = random.within(1, 10);
+            draw::exact_section(random, ice_class, tenths, 0)
+        } else {
+            draw::section(random, ice_class, 8)
+        });
+    }
+    let held = random.within(0, 5);
+    let tower = Tower {
+        legs,
+        items: draw::items(random, held, sections.len()),
+        sections,
+    };
+    let wind = draw::wind(random, &tower, direction, ice_class);
+    reported(tower, wind)
+}
+
+/// With the rows that the service reports.
+fn reported(tower: Tower, wind: Wind) -> TowerCase {
+    let mut service = Service::fresh();
+    let erected = service.erect(&file::write(&tower));
+    assert_eq!(erected, Ok(()), "{tower:?}");
+    assert_eq!(blow(&mut service, &wind), Ok(()), "{tower:?} {wind:?}");
+    let mut rows = vec![0; ROW * tower.sections.len()];
+    assert_eq!(service.report(&mut rows), Ok(()));
+    TowerCase { tower, wind, rows }
+}
+
+fn blow(service: &mut Service, wind: &Wind) -> Result<(), Refusal> {
+    service.wind(
+        wind.direction,
+        wind.ice_class,
+        wind.structure_factor,
+        &wind.pressures,
+    )
+}
+
+/// Every beginning of one file, then files with any damage.
+fn file_cases() -> Vec<FileCase> {
+    let mut random = Random(0x5eed_0102);
+    let whole = file::write(&Tower {
+        legs: Legs::Four,
+        sections: vec![draw::section(&mut random, 0, 2)],
+        items: draw::items(&mut random, 2, 1),
+    });
+    let mut files: Vec<Vec<u8>> = (0..=whole.len()).map(|end| whole[..end].to_vec()).collect();
+    files.extend((0..420).map(|_| damage::any_file(&mut random)));
+    let case = |bytes: Vec<u8>| FileCase {
+        refusal: number(file::read(&bytes)),
+        bytes,
+    };
+    files.into_iter().map(case).collect()
+}

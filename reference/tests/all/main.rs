@@ -1,0 +1,14 @@
+//! All tests of the reference version.
+
+mod arithmetic;
+mod call_refusals;
+mod common;
+mod expected;
+mod file_refusals;
+mod files;
+mod formula;
+mod host;
+mod least_force;
+mod lives;
+mod samples;
+mod vectors;

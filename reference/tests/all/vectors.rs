@@ -1,0 +1,116 @@
+//! The cases for the definitions.
+
+use crate::common::run_program;
+use reference::areas::{areas, gross_face_area};
+use reference::tower::Legs;
+use reference::vectors::{Call, TowerCase, Vectors, USAGE};
+use std::collections::BTreeSet;
+
+/// Tenths of A_u that A_S is beside, and the distance in mm², if it is at most 1.
+fn beside_tenths(case: &TowerCase, section: usize) -> Vec<(u64, i64)> {
+    let row = &case.rows[6 * section..];
+    let solid = row[0] + row[1] + row[2];
+    let gross = gross_face_area(&case.tower.sections[section]).0;
+    let tenths = [2, 5, 8, 10].into_iter();
+    let near = tenths.filter(|tenths| (gross * tenths).is_multiple_of(10));
+    near.map(|tenths| (tenths, solid as i64 - (gross * tenths / 10) as i64))
+        .filter(|(_, distance)| distance.abs() <= 1)
+        .collect()
+}
+
+#[test]
+fn the_cases_are_the_same_each_time() {
+    let (first, second) = (Vectors::all(), Vectors::all());
+    assert_eq!(first, second);
+    assert_eq!(first.table(), second.table());
+}
+
+#[test]
+fn there_are_enough_cases_and_every_refusal_is_reached() {
+    let vectors = Vectors::all();
+    assert!(vectors.towers.len() >= 150);
+    assert!(vectors.files.len() >= 400);
+    assert!(vectors.lists.len() >= 60);
+    assert_eq!(vectors.missing(), [""; 0]);
+    for case in &vectors.lists {
+        assert_eq!((case.calls.len(), case.refusals.len()), (25, 25));
+    }
+    let crowded = |call: &Call| matches!(call, Call::Erect(file) if file.len() > 800);
+    assert!(vectors
+        .lists
+        .iter()
+        .any(|case| case.calls.iter().any(crowded)));
+    assert!(vectors.lists.iter().any(|case| !case.file.is_empty()));
+}
+
+#[test]
+fn a_refusal_that_is_not_reached_is_named() {
+    let mut vectors = Vectors::all();
+    vectors.files.retain(|case| case.refusal != 8);
+    vectors.lists.retain(|case| !case.refusals.contains(&20));
+    let missing = vectors.missing();
+    assert!(missing.contains(&"no file has refusal 8".to_string()));
+    assert!(missing.contains(&"no call has refusal 20".to_string()));
+}
+
+#[test]
+fn the_solidity_ratios_reach_the_limits_and_the_full_face() {
+    let vectors = Vectors::all();
+    for legs in [Legs::Three, Legs::Four] {
+        for iced in [false, true] {
+            let cases = vectors.towers.iter();
+            let found: BTreeSet<(u64, i64)> = cases
+                .filter(|case| case.tower.legs == legs && (case.wind.ice_class > 0) == iced)
+                .flat_map(|case| {
+                    let sections = 0..case.tower.sections.len();
+                    sections.flat_map(|section| beside_tenths(case, section))
+                })
+                .collect();
+            for tenths in [2, 5, 8, 10] {
+                assert!(found.contains(&(tenths, -1)), "{legs:?} {iced} {tenths}");
+                assert!(found.contains(&(tenths, 0)), "{legs:?} {iced} {tenths}");
+                assert_eq!(found.contains(&(tenths, 1)), tenths < 10);
+            }
+        }
+    }
+}
+
+#[test]
+fn all_directions_and_ice_classes_and_flows_are_there() {
+    let vectors = Vectors::all();
+    let directions = |legs| -> BTreeSet<u32> {
+        let cases = vectors.towers.iter();
+        let these = cases.filter(|case| case.tower.legs == legs);
+        these.map(|case| case.wind.direction).collect()
+    };
+    assert_eq!(directions(Legs::Four), (0..24).collect());
+    assert_eq!(directions(Legs::Three), (0..24).step_by(2).collect());
+    let cases = vectors.towers.iter();
+    let classes: BTreeSet<u32> = cases.map(|case| case.wind.ice_class).collect();
+    assert_eq!(classes, (0..=5).collect());
+    let mut mixed = 0;
+    for case in &vectors.towers {
+        for (section, &pressure) in case.tower.sections.iter().zip(&case.wind.pressures) {
+            let areas = areas(section, case.wind.ice_thickness(), pressure);
+            let parts = [areas.flat, areas.subcritical, areas.supercritical];
+            mixed += usize::from(parts.iter().all(|area| area.0 > 0));
+        }
+    }
+    assert!(mixed >= 20, "{mixed}");
+}
+
+/// Runs the binary itself.
+fn vectors(words: &[&str]) -> (Option<i32>, String, String) {
+    run_program(env!("CARGO_BIN_EXE_vectors"), words)
+}
+
+#[test]
+fn the_program_answers_with_its_status() {
+    let (status, stdout, stderr) = vectors(&[]);
+    assert_eq!((status, stdout), (Some(0), Vectors::all().table()));
+    assert!(stderr.contains("refusals of files: 0: "));
+    assert_eq!(vectors(&["--help"]), (Some(0), USAGE.into(), String::new()));
+    let (status, stdout, stderr) = vectors(&["--what"]);
+    assert_eq!((status, stdout.as_str()), (Some(2), ""));
+    assert!(stderr.contains("--what") && stderr.contains(USAGE));
+}
