@@ -1,7 +1,8 @@
 //! Cases on which the definitions of document 01 and this version have to
-//! agree: towers under a wind, tower files, and lists of calls.
+//! agree: towers under a wind, tower files, lists of calls, and host calls.
 
 mod damage;
+mod hosts;
 mod lists;
 mod table;
 
@@ -11,6 +12,7 @@ use crate::refusal::Refusal;
 use crate::report::ROW;
 use crate::service::Service;
 use crate::tower::{Item, Legs, Tower, Wind};
+use crate::units::Force;
 use std::collections::BTreeMap;
 
 /// What the program prints for `--help`.
@@ -18,8 +20,8 @@ pub const USAGE: &str = "\
 usage: vectors
        vectors --help
 
-Prints towers, tower files and lists of calls with this version's answers, as
-a table for the definitions. How often each refusal is reached goes to
+Prints towers, tower files, lists of calls and host calls with this version's
+answers, as a table for the definitions. How often each refusal is reached goes to
 standard error; status 1 if one is never reached.
 
   --help  print this
@@ -34,6 +36,8 @@ pub struct TowerCase {
     pub wind: Wind,
     /// Six numbers per section.
     pub rows: Vec<u64>,
+    /// For each section 1 if its shear is above its allowance, else 0.
+    pub over: Vec<u8>,
 }
 
 /// A file, and the number of its refusal.
@@ -75,6 +79,25 @@ pub struct ListCase {
     pub file: Vec<u8>,
 }
 
+/// A call of a host program, and the number that it answers.
+#[derive(Clone, Debug, PartialEq, Eq)]
+pub struct HostCase {
+    /// Whole or damaged.
+    pub file: Vec<u8>,
+    /// k.
+    pub direction: u32,
+    /// Of any number.
+    pub ice_class: u32,
+    /// In thousandths.
+    pub factor: u32,
+    /// Two bytes each, if they are whole.
+    pub pressures: Vec<u8>,
+    /// Bytes that are lent for the rows.
+    pub room: usize,
+    /// 0 if it is accepted.
+    pub refusal: u32,
+}
+
 /// All cases.
 #[derive(Clone, Debug, PartialEq, Eq)]
 pub struct Vectors {
@@ -84,6 +107,8 @@ pub struct Vectors {
     pub files: Vec<FileCase>,
     /// Lists of calls.
     pub lists: Vec<ListCase>,
+    /// Calls of a host program.
+    pub hosts: Vec<HostCase>,
 }
 
 /// How often each refusal is reached.
@@ -96,6 +121,7 @@ impl Vectors {
             towers: tower_cases(),
             files: file_cases(),
             lists: lists::list_cases(),
+            hosts: hosts::host_cases(),
         }
     }
 
@@ -119,15 +145,24 @@ impl Vectors {
         count(others.map(|(_, &refusal)| refusal))
     }
 
-    /// Says which refusals no file, and which no call but erect, reaches.
+    /// The refusals of the host's calls.
+    pub fn host_refusals(&self) -> Counts {
+        count(self.hosts.iter().map(|case| case.refusal))
+    }
+
+    /// Says which refusals no file, no call but erect, and no host's call reaches.
     pub fn missing(&self) -> Vec<String> {
         let (files, calls) = (self.file_refusals(), self.call_refusals());
+        let hosts = self.host_refusals();
         let no_file = (2..=13).filter(|number| !files.contains_key(number));
         let of_calls = [1].into_iter().chain(9..=12).chain(14..=22);
         let no_call = of_calls.filter(|number| !calls.contains_key(number));
+        let of_hosts = [0, 2].into_iter().chain(15..=20).chain([22]);
+        let no_host = of_hosts.filter(|number| !hosts.contains_key(number));
         no_file
             .map(|number| format!("no file has refusal {number}"))
             .chain(no_call.map(|number| format!("no call has refusal {number}")))
+            .chain(no_host.map(|number| format!("no host's call has refusal {number}")))
             .collect()
     }
 }
@@ -221,18 +256,40 @@ fn tower_case(random: &mut Random, place: u32) -> TowerCase {
     reported(tower, wind)
 }
 
-/// With the rows that the service reports.
-fn reported(tower: Tower, wind: Wind) -> TowerCase {
-    let mut service = Service::fresh();
-    let erected = service.erect(&file::write(&tower));
-    assert_eq!(erected, Ok(()), "{tower:?}");
-    assert_eq!(blow(&mut service, &wind), Ok(()), "{tower:?} {wind:?}");
+/// With the rows that the service reports, and allowances at the shears and
+/// beside them.
+fn reported(mut tower: Tower, wind: Wind) -> TowerCase {
     let mut rows = vec![0; ROW * tower.sections.len()];
-    assert_eq!(service.report(&mut rows), Ok(()));
-    TowerCase { tower, wind, rows }
+    assert_eq!(under(&tower, &wind).report(&mut rows), Ok(()));
+    for (place, section) in tower.sections.iter_mut().enumerate() {
+        let shear = rows[ROW * place + 4];
+        section.allowance = match (place as u64 + rows[3]) % 4 {
+            0 => None,
+            beside => Some(Force((shear + beside).saturating_sub(2))),
+        };
+    }
+    let service = under(&tower, &wind);
+    let over = (0..tower.sections.len() as u8)
+        .map(|section| u8::from(service.is_over(section) == Ok(true)))
+        .collect();
+    TowerCase {
+        tower,
+        wind,
+        rows,
+        over,
+    }
 }
 
-fn blow(service: &mut Service, wind: &Wind) -> Result<(), Refusal> {
+/// A service with this tower under this wind.
+fn under(tower: &Tower, wind: &Wind) -> Service {
+    let mut service = Service::fresh();
+    let erected = service.erect(&file::write(tower));
+    assert_eq!(erected, Ok(()), "{tower:?}");
+    assert_eq!(set_wind(&mut service, wind), Ok(()), "{tower:?} {wind:?}");
+    service
+}
+
+fn set_wind(service: &mut Service, wind: &Wind) -> Result<(), Refusal> {
     service.wind(
         wind.direction,
         wind.ice_class,

@@ -43,6 +43,6 @@ pub re-is : {x : Fraction} {n d n′ d′ : ℕ} → n ≡ n′ → d ≡ d′ �
 re-is {x} h g i = subst₂ (λ (n d : ℕ). Is x n d) h g i
 
 -- an exact number is that of whole numbers
-pub is-number : (x : Exact) (w : Surd) → Is (x .rational) (w .top) (w .bottom) → Is (square x) (w .under) (w .bottom * w .bottom) → Same x (number w)
+pub is-number : (x : Exact) (w : Surd) → Is (x .rational) (w .num) (w .den) → Is (square x) (w .radicand) (w .den * w .den) → Same x (number w)
 unfolding number square _//_ _·_
 is-number x w h g = record { rational = omega arith; square = omega arith }

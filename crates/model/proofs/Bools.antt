@@ -9,6 +9,10 @@ pub and-split : (a b : Bool) → (a && b) ≡ true → (a ≡ true) × (b ≡ tr
 and-split true b h = (refl, h)
 and-split false b h = absurd (true≢false (sym h))
 
+pub and-rest : (a b : Bool) → a ≡ true → (a && b) ≡ false → b ≡ false
+and-rest true b h g = g
+and-rest false b h g = absurd (true≢false (sym h))
+
 pub and-join : {a b : Bool} → a ≡ true → b ≡ true → (a && b) ≡ true
 and-join h g = rw (h, g)
 

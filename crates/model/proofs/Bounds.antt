@@ -15,48 +15,48 @@ use Rattle.model.specs.declared.Legs.the-variants.{Three, Four}
 use Rattle.model.specs.declared.Areas.{Areas}
 use Rattle.model.specs.Areas.{solid}
 use Rattle.model.specs.Force.{halves, exact}
-use Rattle.model.specs.WholeForm.{k2Top, rounds, turnBottom, turnTop, faceBottom, flatTop, subTop, superTop, faceTop, wholeForm}
+use Rattle.model.specs.WholeForm.{k2Num, rounds, incidenceDen, incidenceNum, faceDen, flatNum, subcriticalNum, supercriticalNum, faceNum, wholeForm}
 use Rattle.model.proofs.Coefficients.{quarters-bound}
 use Rattle.model.proofs.WholeForm.{grossOf, exact-whole}
-use Rattle.model.proofs.ExactForce.{bottom-positive}
+use Rattle.model.proofs.ExactForce.{den-positive}
 
 pub cond-bound : (b : Bool) {x y n : ℕ} → x ≤ n → y ≤ n → cond b x y ≤ n
 cond-bound true h g = h
 cond-bound false h g = g
 
 -- K2 ≤ 1, Kθ ≤ 2
-k2-bound : (S e : ℕ) → k2Top S e ≤ 5 * (S + e)
-unfolding k2Top
+k2-bound : (S e : ℕ) → k2Num S e ≤ 5 * (S + e)
+unfolding k2Num
 k2-bound S e =
     cond-bound (leb (4 * S) e) (omega arith) (cond-bound (leb (4 * e) S) (omega arith) (cond-bound (leb S e) (omega arith) (omega arith)))
 
-turn-four : (f r S U x j : ℕ) → f + r ≡ S → x ≤ 5 * U → j ≤ 4 → 400 * S * U + (11 * f + 16 * r) * x * j ≤ 2 * (400 * S * U)
-turn-four f r S U x j e hx hj =
+incidence-four : (f r S U x j : ℕ) → f + r ≡ S → x ≤ 5 * U → j ≤ 4 → 400 * S * U + (11 * f + 16 * r) * x * j ≤ 2 * (400 * S * U)
+incidence-four f r S U x j e hx hj =
     let a : 11 * f + 16 * r ≤ 16 * S = omega arith in
     let b : (11 * f + 16 * r) * x ≤ 16 * S * (5 * U) = mul-le-mul a hx in
     let c : (11 * f + 16 * r) * x * j ≤ 16 * S * (5 * U) * 4 = mul-le-mul b hj in
     omega arith
 
-pub turn-bound : (l : Legs) (k : ℕ) (a : Areas) (e : ℕ) → turnTop l k a e ≤ 2 * turnBottom l (solid a .0) e
-unfolding turnTop turnBottom solid
-turn-bound Four k a e = turn-four (a .flat .0) (rounds a) _ _ _ _ (omega arith) (k2-bound _ e) (quarters-bound k)
-turn-bound Three k a e =
+pub incidence-bound : (l : Legs) (k : ℕ) (a : Areas) (e : ℕ) → incidenceNum l k a e ≤ 2 * incidenceDen l (solid a .0) e
+unfolding incidenceNum incidenceDen solid
+incidence-bound Four k a e = incidence-four (a .flat .0) (rounds a) _ _ _ _ (omega arith) (k2-bound _ e) (quarters-bound k)
+incidence-bound Three k a e =
     let h : a .flat .0 * (20 - halves k) ≤ a .flat .0 * 20 = mul-le-mul-left (a .flat .0) (omega arith) in
     omega arith
 
 -- c_f, c_c and 1.9 are at most 4
-flat-bound : (l : Legs) (S e : ℕ) → flatTop l S e ≤ 4 * faceBottom l (S + e)
-unfolding flatTop faceBottom
+flat-bound : (l : Legs) (S e : ℕ) → flatNum l S e ≤ 4 * faceDen l (S + e)
+unfolding flatNum faceDen
 flat-bound Four S e = omega arith
 flat-bound Three S e = omega arith
 
-sub-bound : (l : Legs) (S e : ℕ) → subTop l S e ≤ 4 * faceBottom l (S + e)
-unfolding subTop faceBottom
+sub-bound : (l : Legs) (S e : ℕ) → subcriticalNum l S e ≤ 4 * faceDen l (S + e)
+unfolding subcriticalNum faceDen
 sub-bound Four S e = omega arith
 sub-bound Three S e = omega arith
 
-super-bound : (l : Legs) (U : ℕ) → superTop l U ≤ 4 * faceBottom l U
-unfolding superTop faceBottom
+super-bound : (l : Legs) (U : ℕ) → supercriticalNum l U ≤ 4 * faceDen l U
+unfolding supercriticalNum faceDen
 super-bound Four U = omega arith
 super-bound Three U = omega arith
 
@@ -71,10 +71,10 @@ shares x y z b f c p S hx hy hz h =
     let k : z * p ≤ b * p = mul-le-mul-right p hz in
     rw (← h) (omega arith)
 
-pub face-bound : (l : Legs) (a : Areas) (e : ℕ) → faceTop l a e ≤ 4 * faceBottom l (solid a .0 + e) * solid a .0
-unfolding faceTop
+pub face-bound : (l : Legs) (a : Areas) (e : ℕ) → faceNum l a e ≤ 4 * faceDen l (solid a .0 + e) * solid a .0
+unfolding faceNum
 face-bound l a e =
-    shares (flatTop l (solid a .0) e) (subTop l (solid a .0) e) (superTop l (solid a .0 + e)) _ _ _ _ (solid a .0)
+    shares (flatNum l (solid a .0) e) (subcriticalNum l (solid a .0) e) (supercriticalNum l (solid a .0 + e)) _ _ _ _ (solid a .0)
     (flat-bound l (solid a .0) e) (sub-bound l (solid a .0) e) (super-bound l (solid a .0 + e)) (solid-is a)
 
 -- the largest items' sum: 64 items of 3.1 m by 10 m, coefficient 3 and K 1
@@ -93,18 +93,18 @@ largest t turn f face S h items load ht hf eh hS hi hl =
     rw eh (omega arith)
 
 module _ (l : Legs) (k factor q : ℕ) (a : Areas) (e items : ℕ) where
-  top-bound : solid a .0 + e ≤ 150_000_000 → q ≤ 5000 → factor ≤ 2000 → items ≤ largestItems
-      → wholeForm l k factor q a e items .top ≤ 2 ^ 27 * wholeForm l k factor q a e items .bottom
+  num-bound : solid a .0 + e ≤ 150_000_000 → q ≤ 5000 → factor ≤ 2000 → items ≤ largestItems
+      → wholeForm l k factor q a e items .num ≤ 2 ^ 27 * wholeForm l k factor q a e items .den
   unfolding wholeForm
-  top-bound hu hq hf hi =
+  num-bound hu hq hf hi =
       let load : q * factor ≤ 5000 * 2000 = mul-le-mul {n₂ = 5000} {m₂ = 2000} hq hf in
-      largest (turnBottom l (solid a .0) e) (turnTop l k a e) (faceBottom l (solid a .0 + e)) (faceTop l a e) (solid a .0) _ items (q * factor)
-      (turn-bound l k a e) (face-bound l a e) refl (omega arith) hi load
+      largest (incidenceDen l (solid a .0) e) (incidenceNum l k a e) (faceDen l (solid a .0 + e)) (faceNum l a e) (solid a .0) _ items (q * factor)
+      (incidence-bound l k a e) (face-bound l a e) refl (omega arith) hi load
 
   -- an exact force is at most 2²⁷ newtons
   pub exact-bound : 0 < solid a .0 → solid a .0 + e ≤ 150_000_000 → q ≤ 5000 → factor ≤ 2000 → items ≤ largestItems
       → AtLeast (exact l k factor q (grossOf a e) a items) (whole (2 ^ 27))
   exact-bound hs hu hq hf hi =
-      let d : _ = bottom-positive l k factor q a e items hs in
+      let d : _ = den-positive l k factor q a e items hs in
       at-least-same (number-sound _ d) (same-sym (exact-whole l k factor q a e items)) (whole (2 ^ 27)) (whole-proper _)
-      (from-over _ d (2 ^ 27) (top-bound hu hq hf hi))
+      (from-over _ d (2 ^ 27) (num-bound hu hq hf hi))

@@ -14,7 +14,7 @@ use Rattle.model.specs.declared.Legs.the-variants.{Three, Four}
 use Rattle.model.specs.declared.Areas.{Areas}
 use Rattle.model.specs.Areas.{solid}
 use Rattle.model.specs.Force.{C1, C2, c-f, c-c, c-p, K1, K2, quarters, halves, s, Kθ}
-use Rattle.model.specs.WholeForm.{k2Top, rounds, turnBottom, turnTop, faceBottom, flatTop, subTop, superTop}
+use Rattle.model.specs.WholeForm.{k2Num, rounds, incidenceDen, incidenceNum, faceDen, flatNum, subcriticalNum, supercriticalNum}
 use Rattle.model.proofs.Lists.{getD-all}
 
 -- the leaves: t is what the whole-number form has
@@ -43,32 +43,32 @@ module _ (S U t : ℕ) where
   unfolding c-p C1 C2 whole _//_ _·_ _⊕_ _⊖_
   root-three h = let g : _ = ap (λ (z : ℕ). z * (U * U)) h in omega arith
 
-pub flat-is : (l : Legs) (S e : ℕ) → Is (c-f l (S // (S + e))) (flatTop l S e) (faceBottom l (S + e))
-unfolding flatTop faceBottom
+pub flat-is : (l : Legs) (S e : ℕ) → Is (c-f l (S // (S + e))) (flatNum l S e) (faceDen l (S + e))
+unfolding flatNum faceDen
 flat-is Four S e = flat-four S (S + e) _ (omega arith)
 flat-is Three S e = flat-three S (S + e) _ (omega arith)
 
-pub sub-is : (l : Legs) (S e : ℕ) → Is (c-c l (S // (S + e))) (subTop l S e) (faceBottom l (S + e))
-unfolding subTop faceBottom
+pub sub-is : (l : Legs) (S e : ℕ) → Is (c-c l (S // (S + e))) (subcriticalNum l S e) (faceDen l (S + e))
+unfolding subcriticalNum faceDen
 sub-is Four S e = sub-four S (S + e) _ (omega arith)
 sub-is Three S e = sub-three S (S + e) _ (omega arith)
 
-pub super-is : (l : Legs) (φ : Fraction) (U : ℕ) → Is (c-p l φ .rational) (superTop l U) (faceBottom l U)
-unfolding c-p _//_ superTop faceBottom
+pub super-is : (l : Legs) (φ : Fraction) (U : ℕ) → Is (c-p l φ .rational) (supercriticalNum l U) (faceDen l U)
+unfolding c-p _//_ supercriticalNum faceDen
 super-is Four φ U = omega arith
 super-is Three φ U = omega arith
 
--- what stands under the root, as (openTop / rootBottom)
-unfoldable pub openTop : Legs → ℕ → ℕ → ℕ
-openTop Four S e = e * (247 * S + 47 * e)
-openTop Three S e = e * (817 * S + 317 * e)
+-- what stands under the root, as (openNum / rootDen)
+unfoldable pub openNum : Legs → ℕ → ℕ → ℕ
+openNum Four S e = e * (247 * S + 47 * e)
+openNum Three S e = e * (817 * S + 317 * e)
 
-unfoldable pub rootBottom : Legs → ℕ → ℕ
-rootBottom Four U = 200 * (U * U)
-rootBottom Three U = 500 * (U * U)
+unfoldable pub rootDen : Legs → ℕ → ℕ
+rootDen Four U = 200 * (U * U)
+rootDen Three U = 500 * (U * U)
 
-pub root-is : (l : Legs) (S e : ℕ) → Is (c-p l (S // (S + e)) .radicand) (openTop l S e) (rootBottom l (S + e))
-unfolding openTop rootBottom
+pub root-is : (l : Legs) (S e : ℕ) → Is (c-p l (S // (S + e)) .radicand) (openNum l S e) (rootDen l (S + e))
+unfolding openNum rootDen
 root-is Four S e = root-four S (S + e) _ (omega arith)
 root-is Three S e = root-three S (S + e) _ (omega arith)
 
@@ -77,8 +77,8 @@ K1-is : (a : Areas) → Is (K1 a) (11 * a .flat .0 + 16 * rounds a) (20 * solid 
 unfolding K1 solid whole _//_ _·_ _⊕_
 K1-is a = omega arith
 
-K2-is : (S e : ℕ) → Is (K2 (S // (S + e))) (k2Top S e) (5 * (S + e))
-unfolding K2 k2Top _≼ᵇ_ _//_ whole _⊖_
+K2-is : (S e : ℕ) → Is (K2 (S // (S + e))) (k2Num S e) (5 * (S + e))
+unfolding K2 k2Num _≼ᵇ_ _//_ whole _⊖_
 K2-is S e =
     ⊎-elim
     (λ h. simp (le-leb (4 * S) e h, le-leb (S * 10 + 0 * (S + e)) (2 * (S + e) + 0 * 10) (omega arith)) (omega arith))
@@ -106,16 +106,16 @@ pub halves-bound : (k : ℕ) → halves k ≤ 2
 unfolding halves
 halves-bound k = leb-true _ _ (getD-all (λ n. leb n 2) (0 ∷ 0 ∷ 1 ∷ 0 ∷ 2 ∷ 0 ∷ 1 ∷ 0 ∷ []) (k % 8) 0 refl refl)
 
-turn-by : (f r S j i : ℕ) → j + i ≡ 20 → Is (r // S ⊕ f // S · (whole 1 ⊖ 1 // 10 · (j // 2))) (20 * r + f * i) (20 * S)
+incidence-by : (f r S j i : ℕ) → j + i ≡ 20 → Is (r // S ⊕ f // S · (whole 1 ⊖ 1 // 10 · (j // 2))) (20 * r + f * i) (20 * S)
 unfolding whole _//_ _⊕_ _·_ _⊖_
-turn-by f r S j i h = let g : _ = ap (λ (z : ℕ). z * (f * S * S)) h in omega arith
+incidence-by f r S j i h = let g : _ = ap (λ (z : ℕ). z * (f * S * S)) h in omega arith
 
-turn-three : (f r S j : ℕ) → j ≤ 2 → Is (r // S ⊕ f // S · (whole 1 ⊖ 1 // 10 · (j // 2))) (20 * r + f * (20 - j)) (20 * S)
-turn-three f r S j h = turn-by f r S j (20 - j) (omega arith)
+incidence-three : (f r S j : ℕ) → j ≤ 2 → Is (r // S ⊕ f // S · (whole 1 ⊖ 1 // 10 · (j // 2))) (20 * r + f * (20 - j)) (20 * S)
+incidence-three f r S j h = incidence-by f r S j (20 - j) (omega arith)
 
-pub turn-is : (l : Legs) (k e : ℕ) (a : Areas)
-    → Is (Kθ l k (solid a .0 // (solid a .0 + e)) a) (turnTop l k a e) (turnBottom l (solid a .0) e)
-unfolding Kθ s turnTop turnBottom
-turn-is Four k e a =
+pub incidence-is : (l : Legs) (k e : ℕ) (a : Areas)
+    → Is (Kθ l k (solid a .0 // (solid a .0 + e)) a) (incidenceNum l k a e) (incidenceDen l (solid a .0) e)
+unfolding Kθ s incidenceNum incidenceDen
+incidence-is Four k e a =
     re-is (omega arith) (omega arith) (one-plus (·-is (·-is (K1-is a) (K2-is (solid a .0) e)) (//-is (quarters k) 4)))
-turn-is Three k e a = turn-three (a .flat .0) (rounds a) (solid a .0) (halves k) (halves-bound k)
+incidence-is Three k e a = incidence-three (a .flat .0) (rounds a) (solid a .0) (halves k) (halves-bound k)

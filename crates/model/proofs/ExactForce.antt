@@ -1,4 +1,4 @@
--- The exact force is a number, is not negative, and is below 2²⁷ newtons on every section within document 01's ranges.
+-- The exact force is a number and is not negative, wherever 0 < A_S ≤ A_u.
 use Prim.Native.Nat.{ℕ, suc, _+_, _*_, _≤_, _<_}
 use mathlib.Core.Path.{_≡_, refl}
 use mathlib.Core.Bool.{Bool, true, false, cond}
@@ -15,7 +15,7 @@ use Rattle.model.specs.declared.Legs.the-variants.{Three, Four}
 use Rattle.model.specs.declared.Areas.{Areas}
 use Rattle.model.specs.Areas.{solid}
 use Rattle.model.specs.Force.{m², solidity, C1, C2, c-f, c-c, c-p, K1, K2, s, Kθ, resistance, exact}
-use Rattle.model.specs.WholeForm.{turnBottom, turnTop, faceBottom, superTop, faceTop, rootTop, wholeForm}
+use Rattle.model.specs.WholeForm.{incidenceDen, incidenceNum, faceDen, supercriticalNum, faceNum, rootNum, wholeForm}
 use Rattle.model.proofs.WholeForm.{grossOf, exact-whole}
 
 -- no denominator is 0
@@ -48,11 +48,11 @@ K1-proper a d =
     ·-proper _ _ (⊕-proper _ _ (·-proper _ _ (lit 55 99) (whole-proper _)) (·-proper _ _ (lit 8 9) (whole-proper _)))
     (//-proper 1 _ d)
 
-turn-proper : (l : Legs) (k : ℕ) (a : Areas) (φ : Fraction) → Proper φ → 0 < solid a .0 → Proper (Kθ l k φ a)
+incidence-proper : (l : Legs) (k : ℕ) (a : Areas) (φ : Fraction) → Proper φ → 0 < solid a .0 → Proper (Kθ l k φ a)
 unfolding Kθ s
-turn-proper Four k a φ c d =
+incidence-proper Four k a φ c d =
     ⊕-proper _ _ (whole-proper 1) (·-proper _ _ (·-proper _ _ (K1-proper a d) (K2-proper φ c)) (lit _ 3))
-turn-proper Three k a φ c d =
+incidence-proper Three k a φ c d =
     ⊕-proper _ _ (//-proper _ _ d)
     (·-proper _ _ (//-proper _ _ d) (⊖-proper _ _ (whole-proper 1) (·-proper _ _ (lit 1 9) (lit _ 1))))
 
@@ -90,7 +90,7 @@ exact-sound l k factor q u a items hu hs =
     let c : Proper (solid a .0 // u .0) = //-proper _ _ hu in
     ⊙-sound (·-proper _ _ (whole-proper q) (lit _ 999))
     (⊞-sound (lit _ 999_999_999_999)
-    (⊙-sound (turn-proper l k a _ c hs)
+    (⊙-sound (incidence-proper l k a _ c hs)
     (⊞-sound
     (⊕-proper _ _ (·-proper _ _ (c-f-proper l _ c) (m²-proper (a .flat))) (·-proper _ _ (c-c-proper l _ c) (m²-proper (a .subcritical))))
     (⊙-sound (m²-proper (a .supercritical)) (c-p-sound l _ c)))))
@@ -106,23 +106,23 @@ superScale : Legs → ℕ
 superScale Four = 380
 superScale Three = 9500
 
-super-scale : (l : Legs) (U : ℕ) → superTop l U ≡ superScale l * (U * U)
-unfolding superTop superScale
+super-scale : (l : Legs) (U : ℕ) → supercriticalNum l U ≡ superScale l * (U * U)
+unfolding supercriticalNum superScale
 super-scale Four U = refl
 super-scale Three U = refl
 
-root-small : (l : Legs) (S e : ℕ) → rootTop l S e ≤ superScale l * superScale l * ((S + e) * (S + e))
-unfolding rootTop superScale
+root-small : (l : Legs) (S e : ℕ) → rootNum l S e ≤ superScale l * superScale l * ((S + e) * (S + e))
+unfolding rootNum superScale
 root-small Four S e = omega arith
 root-small Three S e = omega arith
 
-turn-positive : (l : Legs) (S e : ℕ) → 0 < S → 0 < turnBottom l S e
-unfolding turnBottom
-turn-positive Four S e h = mul-pos (omega arith) (omega arith)
-turn-positive Three S e h = omega arith
+incidence-positive : (l : Legs) (S e : ℕ) → 0 < S → 0 < incidenceDen l S e
+unfolding incidenceDen
+incidence-positive Four S e h = mul-pos (omega arith) (omega arith)
+incidence-positive Three S e h = omega arith
 
-face-positive : (l : Legs) (U : ℕ) → 0 < U → 0 < faceBottom l U
-unfolding faceBottom
+face-positive : (l : Legs) (U : ℕ) → 0 < U → 0 < faceDen l U
+unfolding faceDen
 face-positive Four U h = omega (arith, mul-pos h h)
 face-positive Three U h = omega (arith, mul-pos h h)
 
@@ -130,24 +130,24 @@ large : (T H x y z w : ℕ) → T * H * 1_000_000 * z ≤ T * (H * (x + y + z) *
 large T H x y z w = omega arith
 
 module _ (l : Legs) (k factor q : ℕ) (a : Areas) (e items : ℕ) where
-  top-large : q * factor * turnTop l k a e * 1_000_000 * (superScale l * ((solid a .0 + e) * (solid a .0 + e)) * a .supercritical .0)
-      ≤ wholeForm l k factor q a e items .top
-  unfolding wholeForm faceTop
-  top-large = rw (← super-scale l (solid a .0 + e)) (large (q * factor) (turnTop l k a e) _ _ _ _)
+  num-large : q * factor * incidenceNum l k a e * 1_000_000 * (superScale l * ((solid a .0 + e) * (solid a .0 + e)) * a .supercritical .0)
+      ≤ wholeForm l k factor q a e items .num
+  unfolding wholeForm faceNum
+  num-large = rw (← super-scale l (solid a .0 + e)) (large (q * factor) (incidenceNum l k a e) _ _ _ _)
 
-  under-small : wholeForm l k factor q a e items .under ≤ wholeForm l k factor q a e items .top * wholeForm l k factor q a e items .top
+  radicand-small : wholeForm l k factor q a e items .radicand ≤ wholeForm l k factor q a e items .num * wholeForm l k factor q a e items .num
   unfolding wholeForm
-  under-small =
-      nonneg-law (q * factor * turnTop l k a e * 1_000_000) (a .supercritical .0) (solid a .0 + e) (rootTop l (solid a .0) e)
-      (superScale l) _ (root-small l (solid a .0) e) top-large
+  radicand-small =
+      nonneg-law (q * factor * incidenceNum l k a e * 1_000_000) (a .supercritical .0) (solid a .0 + e) (rootNum l (solid a .0) e)
+      (superScale l) _ (root-small l (solid a .0) e) num-large
 
-  pub bottom-positive : 0 < solid a .0 → 0 < wholeForm l k factor q a e items .bottom
+  pub den-positive : 0 < solid a .0 → 0 < wholeForm l k factor q a e items .den
   unfolding wholeForm
-  bottom-positive h =
-      mul-pos (mul-pos (turn-positive l (solid a .0) e h) (face-positive l (solid a .0 + e) (omega arith))) (omega arith)
+  den-positive h =
+      mul-pos (mul-pos (incidence-positive l (solid a .0) e h) (face-positive l (solid a .0 + e) (omega arith))) (omega arith)
 
   pub exact-nonneg : 0 < solid a .0 → AtMost (whole 0) (exact l k factor q (grossOf a e) a items)
   exact-nonneg h =
-      let d : _ = bottom-positive h in
+      let d : _ = den-positive h in
       at-most-same (number-sound _ d) (same-sym (exact-whole l k factor q a e items)) (whole 0) (whole-proper 0)
-      (number-nonneg _ d under-small)
+      (number-nonneg _ d radicand-small)

@@ -5,7 +5,9 @@ use Rattle.model.specs.Areas.{groupArea, gross, solidOf, flowOf}
 use Rattle.model.specs.Reading.{field, ranged, many}
 use Rattle.model.specs.File.{readGroup, readGroups, readSection, readSections, readItemFields, readItem, readItems, readFile}
 use Rattle.model.specs.Bytes.{bytes, groupBytes, sectionBytes, itemBytes, fileOf}
-use Rattle.model.specs.Machine.{erectRefusal, erectStep}
+use Rattle.model.specs.Machine.{filled, erectRefusal, erectStep}
+use Rattle.model.specs.Report.{exceeds}
+use Rattle.model.specs.Host.{pressuresOf, hostRefusal}
 use Rattle.model.specs.Examples.{
   fileWith,
   group,
@@ -18,12 +20,13 @@ use Rattle.model.specs.Examples.{
   files,
   calls,
   plainTower,
+  triangle,
   largestTower,
   MachineExamples,
 }
 
 pub machine-examples : MachineExamples
-unfolding joined sumBy listTo groupArea gross solidOf flowOf field ranged many readGroup readGroups readSection readSections readItemFields readItem readItems readFile bytes groupBytes sectionBytes itemBytes fileOf erectRefusal erectStep fileWith group itemWith plain itemOf windWith gives holds files calls plainTower largestTower
+unfolding joined sumBy listTo groupArea gross solidOf flowOf field ranged many readGroup readGroups readSection readSections readItemFields readItem readItems readFile bytes groupBytes sectionBytes itemBytes fileOf filled erectRefusal erectStep exceeds pressuresOf hostRefusal fileWith group itemWith plain itemOf windWith gives holds files calls plainTower triangle largestTower
 machine-examples =
     record {
       file = refl;
@@ -33,5 +36,30 @@ machine-examples =
       read-files = refl;
       turned-down = refl;
       order = refl;
+      second-wind = refl;
+      anew = refl;
+      typed-number = refl;
+      untyped-number = refl;
+      untyped-byte = refl;
+      valid-square = record {
+        tower = record { count = refl; sections = refl; held = refl; items = refl; numbers = refl };
+        accepted = refl;
+      };
+      valid-triangle = record {
+        tower = record { count = refl; sections = refl; held = refl; items = refl; numbers = refl };
+        accepted = refl;
+      };
+      host = refl;
+      host-file-first = refl;
+      host-direction-first = refl;
+      host-odd = refl;
+      host-pressure = refl;
+      host-short = refl;
+      host-pressures = refl;
+      write-out = refl;
+      write-refused = refl;
+      exceeded = refl;
+      reached = refl;
+      not-stated = refl;
       iced-round = refl;
     }

@@ -87,7 +87,7 @@ module _ (t : Tower) (w : Wind) (v : ValidWind t w) (i : ℕ) (h : i < length (t
   pub section-at : SectionFacts (sectionAt t i)
   section-at = section-facts (sectionAt t i) (all-at sectionFits (t .sections) i noSection h (v .tower .sections))
 
-  pub height-at : InRange sectionHeight (heightAt t i)
+  pub height-at : InRange sectionHeight (heightAt t i .0)
   unfolding heightAt
   height-at = section-at .height
 
@@ -130,15 +130,15 @@ module _ (t : Tower) (w : Wind) (v : ValidWind t w) (i : ℕ) (h : i < length (t
       (facts .factor .high) (items-bound t w i (v .tower) (facts .ice .high)))
 
   -- the reported force is the least whole number of newtons that is not below the exact force
-  pub force-least : Least (exactAt t w i) (forceAt t w i)
+  pub force-least : Least (exactAt t w i) (forceAt t w i .0)
   unfolding forceAt
   force-least = ceiling-least (exactAt t w i) (sound-at .rational)
 
   -- it is less than 1 N above, and so in document 01's band of 2 N
-  pub force-within : (margin : ℕ) → 0 < margin → Within margin (exactAt t w i) (forceAt t w i)
+  pub force-within : (margin : ℕ) → 0 < margin → Within margin (exactAt t w i) (forceAt t w i .0)
   unfolding forceAt
   force-within margin p = ceiling-within sound-at nonneg-at margin p
 
-  pub force-bound : forceAt t w i ≤ 2 ^ 27
+  pub force-bound : forceAt t w i .0 ≤ 2 ^ 27
   unfolding forceAt
   force-bound = ceiling-bound sound-at nonneg-at (2 ^ 27) bound-at

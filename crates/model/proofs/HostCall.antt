@@ -2,11 +2,11 @@
 use Prim.Native.Nat.{ℕ, zero, suc, _*_, _/_, _≤_, _<_}
 use mathlib.Core.Path.{_≡_, refl, ap, sym, _∙_}
 use mathlib.Core.Bool.{Bool, true, false, cond, not}
-use mathlib.Core.List.{List, [], _∷_}
+use mathlib.Core.List.{List, [], _∷_, _++_}
 use mathlib.Core.Option.{none, some}
 use native.Mathlib.Omega.{arith}
 use lib.Dec.{ltb, eqb}
-use lib.ListN.{length}
+use lib.ListN.{length, drop}
 use borrow.Author.Tests.{ltb-true, ltb-false, lt-ltb, le-ltb, eqb-true, eqb-false, eq-eqb, ne-eqb}
 use Rattle.model.specs.Lists.{allOf, anyOf, joined}
 use Rattle.model.specs.Ranges.{within, iceClasses, structureFactor, pressures}
@@ -14,9 +14,10 @@ use Rattle.model.specs.Tower.{Tower, Wind}
 use Rattle.model.specs.Reading.{Parsed, got, refused}
 use Rattle.model.specs.File.{readFile}
 use Rattle.model.specs.Bytes.{bytes}
-use Rattle.model.specs.Machine.{no-tower, standing, refuseIf, fileRefusal, erected, erectRefusal, erectStep, directionFits, isTooSolid, windRules, windRefusal, windStep, unlessRefused, rowsIn}
+use Rattle.model.specs.Machine.{no-tower, standing, filled, refuseIf, fileRefusal, erected, erectRefusal, erectStep, directionFits, isTooSolid, windRules, windRefusal, windStep, unlessRefused, rowsIn}
 use Rattle.model.specs.Calls.{erect, wind, report, firstRefusal, run}
-use Rattle.model.specs.Host.{pressuresOf, hostWind, afterFile, hostRefusal, hostRows}
+use Rattle.model.specs.Host.{pressuresOf, hostWind, afterFile, hostRefusal, hostRows, hostOut}
+use Rattle.model.proofs.Refused.{filled-refused}
 use Rattle.model.proofs.FileRefusals.{Numbered, taken, number, file-numbered}
 
 -- 2 bytes a pressure
@@ -102,6 +103,13 @@ module _ (file : List ℕ) (k ice factor : ℕ) (ps : List ℕ) (m : ℕ) (even 
   unfolding hostRefusal erectRefusal erectStep
   host-refusal = by-file (readFile file) (file-numbered file)
 
+-- where there are not 2 bytes per section it is 18, unless a rule before that is met; so an odd number of bytes is never accepted
+pub host-miscounted : (t : Tower) (rest : List ℕ) (w : Wind) (given room : ℕ) → (given ≡ 2 * length (t .sections) → ⊥)
+    → afterFile (got t rest) w given room
+    ≡ refuseIf (not (directionFits (t .legs) (w .direction))) 15
+    (refuseIf (not (within iceClasses (w .ice))) 16 (refuseIf (not (within structureFactor (w .factor))) 17 18))
+host-miscounted t rest w given room h = rw (ne-eqb given (2 * length (t .sections)) h)
+
 rows-by-file : (w : Wind) (p : Parsed Tower) → Numbered p
     → cond (eqb (fileRefusal p) 0) (firstRefusal (erected no-tower p) (wind w ∷ [])) (fileRefusal p) ≡ 0
     → hostRows p w ≡ joined (bytes 8) (rowsIn (windStep (erected no-tower p) w))
@@ -116,3 +124,15 @@ pub host-rows : (file : List ℕ) (w : Wind) → firstRefusal no-tower (erect fi
     → hostRows (readFile file) w ≡ joined (bytes 8) (rowsIn (run no-tower (erect file ∷ wind w ∷ [])))
 unfolding erectRefusal erectStep
 host-rows file w h = rows-by-file w (readFile file) (file-numbered file) h
+
+-- the lent bytes: as they were where the call is turned down, else the rows and then the rest as it was
+module _ (file : List ℕ) (k ice factor : ℕ) (ps lent : List ℕ) where
+  pub host-out-refused : (hostRefusal file k ice factor ps (length lent) ≡ 0 → ⊥) → hostOut file k ice factor ps lent ≡ lent
+  unfolding hostOut
+  host-out-refused h = filled-refused _ _ lent h
+
+  pub host-out : hostRefusal file k ice factor ps (length lent) ≡ 0
+      → hostOut file k ice factor ps lent
+      ≡ hostRows (readFile file) (hostWind k ice factor ps) ++ drop (length (hostRows (readFile file) (hostWind k ice factor ps))) lent
+  unfolding hostOut filled
+  host-out h = rw (eq-eqb (hostRefusal file k ice factor ps (length lent)) 0 h)

@@ -10,8 +10,11 @@ pub mod Forces
 pub mod Moments
 pub mod Reorder
 pub mod Rows
+pub mod RowsFit
 pub mod Samples
 pub mod Examples
 pub mod FileRefusals
 pub mod FileLength
+pub mod Says
+pub mod Refused
 pub mod HostCall

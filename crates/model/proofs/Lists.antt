@@ -8,7 +8,7 @@ use native.Mathlib.Omega.{arith}
 use lib.ListN.{length, getD, take, length-append}
 use lib.Seq.{take-suc}
 use Rattle.model.specs.Lists.{anyOf, allOf, sumBy, sumTo, listTo}
-use Rattle.model.proofs.Bools.{and-split, or-split}
+use Rattle.model.proofs.Bools.{and-split, and-join, or-split}
 
 module _ {A : Type 0} (f : A → ℕ) where
   pub sumBy-none : sumBy f [] ≡ 0
@@ -107,3 +107,9 @@ pub none-at : {A : Type 0} (p : A → Bool) (l : List A) (i : ℕ) (d : A) → i
 none-at p [] i d h t = absurd (omega arith)
 none-at p (x ∷ xs) zero d h t = or-split (p x) (anyOf p xs) t .0
 none-at p (x ∷ xs) (suc i) d h t = none-at p xs i d (omega arith) (or-split (p x) (anyOf p xs) t .1)
+
+pub all-append : {A : Type 0} (p : A → Bool) (xs ys : List A) → allOf p xs ≡ true → allOf p ys ≡ true → allOf p (xs ++ ys) ≡ true
+all-append p [] ys h g = g
+all-append p (x ∷ xs) ys h g =
+    let k : _ = and-split (p x) (allOf p xs) h in
+    and-join (k .0) (all-append p xs ys (k .1) g)

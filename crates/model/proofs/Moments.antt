@@ -5,79 +5,82 @@ use mathlib.Core.List.{List, [], _∷_, _++_, Forall₂}
 use native.Mathlib.Omega.{arith}
 use native.Mathlib.Nat.{mul-le-mul}
 use lib.ListN.{length}
+use Rattle.units.specs.declared.Length.{Length}
+use Rattle.units.specs.declared.Force.{Force}
 use Rattle.exact.specs.Fraction.{whole}
 use Rattle.exact.specs.Sum.{Term, Low, High, weighted, arms, ExcessBelow}
 use Rattle.exact.proofs.Arithmetic.{whole-proper}
 use Rattle.exact.proofs.Sums.{Reported, excess-below}
 use Rattle.model.specs.Lists.{sumTo, listTo}
 use Rattle.model.specs.Tower.{Tower, Wind}
-use Rattle.model.specs.Report.{heightAt, exactAt, forceAt, arm, shearAt, momentAt, shearTerms, momentTerms, armsTo}
+use Rattle.model.specs.Report.{heightAt, exactAt, forceAt, arm, shear, moment, shearAt, momentAt, shearTerms, momentTerms, armsTo}
 use Rattle.model.specs.Valid.{ValidWind}
 use Rattle.model.proofs.Lists.{sumTo-none, sumTo-more, sumTo-same, sumTo-bound, sumTo-ones, length-listTo, forall-listTo}
 use Rattle.model.proofs.Forces.{height-at, sound-at, nonneg-at, force-least, force-within, force-bound}
 
 -- arms
-module _ (height : ℕ → ℕ) where
-  pub arm-own : (n : ℕ) → arm height n (n + 1) ≡ height n / 2
+module _ (height : ℕ → Length) where
+  pub arm-own : (n : ℕ) → arm height n (n + 1) .0 ≡ height n .0 / 2
   unfolding arm
   arm-own n =
       let e : n + 1 - suc n ≡ 0 = omega arith in
-      rw e (omega (arith, sumTo-none (λ m. height (suc n + m))))
+      rw e (omega (arith, sumTo-none (λ m. height (suc n + m) .0)))
 
-  pub arm-more : (j n : ℕ) → j < n → arm height j (n + 1) ≡ arm height j n + height n
+  pub arm-more : (j n : ℕ) → j < n → arm height j (n + 1) .0 ≡ arm height j n .0 + height n .0
   unfolding arm
   arm-more j n q =
       let e : n + 1 - suc j ≡ n - suc j + 1 = omega arith in
       let d : suc j + (n - suc j) ≡ n = omega arith in
-      rw e (omega (arith, sumTo-more (λ m. height (suc j + m)) (n - suc j), ap height d))
+      rw e (omega (arith, sumTo-more (λ m. height (suc j + m) .0) (n - suc j), ap (λ (i : ℕ). height i .0) d))
 
-  pub arm-positive : (j n : ℕ) → 2 ≤ height j → 0 < arm height j n
+  pub arm-positive : (j n : ℕ) → 2 ≤ height j .0 → 0 < arm height j n .0
   unfolding arm
   arm-positive j n h = omega arith
 
   -- an arm is at most the height down to the foot
-  pub arm-bound : (b j n : ℕ) → j < n → ((i : ℕ) → i < n → height i ≤ b) → arm height j n ≤ n * b
+  pub arm-bound : (b j n : ℕ) → j < n → ((i : ℕ) → i < n → height i .0 ≤ b) → arm height j n .0 ≤ n * b
   unfolding arm
   arm-bound b j n q h =
-      let below : sumTo (λ m. height (suc j + m)) (n - suc j) ≤ (n - suc j) * b =
-      sumTo-bound (λ m. height (suc j + m)) b (n - suc j) (λ m r. h (suc j + m) (omega arith)) in
-      let own : height j ≤ b = h j q in
+      let below : sumTo (λ m. height (suc j + m) .0) (n - suc j) ≤ (n - suc j) * b =
+      sumTo-bound (λ m. height (suc j + m) .0) b (n - suc j) (λ m r. h (suc j + m) (omega arith)) in
+      let own : height j .0 ≤ b = h j q in
       let more : (n - suc j + 1) * b ≤ n * b = mul-le-mul {n₁ = n - suc j + 1} {m₁ = b} {n₂ = n} {m₂ = b} (omega arith) (omega arith) in
       omega arith
 
-  -- a sum of products with longer arms
-  stretch : (f a b : ℕ → ℕ) (x n : ℕ) → ((j : ℕ) → j < n → b j ≡ a j + x)
-      → sumTo (λ j. f j * b j) n ≡ sumTo (λ j. f j * a j) n + sumTo f n * x
-  unfolding sumTo
-  stretch f a b x zero h = omega arith
-  stretch f a b x (suc n) h = omega (arith, stretch f a b x n (λ j q. h j (omega arith)), ap (λ y. f n * y) (h n (omega arith)))
+-- a sum of products with longer arms
+stretch : (f a b : ℕ → ℕ) (x n : ℕ) → ((j : ℕ) → j < n → b j ≡ a j + x)
+    → sumTo (λ j. f j * b j) n ≡ sumTo (λ j. f j * a j) n + sumTo f n * x
+unfolding sumTo
+stretch f a b x zero h = omega arith
+stretch f a b x (suc n) h = omega (arith, stretch f a b x n (λ j q. h j (omega arith)), ap (λ y. f n * y) (h n (omega arith)))
 
-module _ (t : Tower) (w : Wind) where
-  pub shear-none : shearAt t w 0 ≡ 0
-  unfolding shearAt
-  shear-none = sumTo-none (forceAt t w)
+-- from one foot to the next
+module _ (force : ℕ → Force) where
+  pub shear-none : shear force 0 .0 ≡ 0
+  unfolding shear
+  shear-none = sumTo-none (λ j. force j .0)
 
-  pub shear-more : (n : ℕ) → shearAt t w (n + 1) ≡ shearAt t w n + forceAt t w n
-  unfolding shearAt
-  shear-more n = sumTo-more (forceAt t w) n
+  pub shear-more : (n : ℕ) → shear force (n + 1) .0 ≡ shear force n .0 + force n .0
+  unfolding shear
+  shear-more n = sumTo-more (λ j. force j .0) n
 
-  pub moment-none : momentAt t w 0 ≡ 0
-  unfolding momentAt
-  moment-none = sumTo-none (λ j. forceAt t w j * arm (heightAt t) j 0)
+  module _ (height : ℕ → Length) where
+    pub moment-none : moment force height 0 .0 ≡ 0
+    unfolding moment
+    moment-none = sumTo-none (λ j. force j .0 * arm height j 0 .0)
 
-  -- from one foot to the next: the shear times the height, and the force times half of it
-  pub moment-more : (n : ℕ)
-      → momentAt t w (n + 1) ≡ momentAt t w n + shearAt t w n * heightAt t n + forceAt t w n * (heightAt t n / 2)
-  unfolding momentAt shearAt
-  moment-more n =
-      let f : ℕ → ℕ = forceAt t w in
-      let g : ℕ → ℕ = heightAt t in
-      omega (
-        arith,
-        sumTo-more (λ j. f j * arm g j (n + 1)) n,
-        stretch g f (λ j. arm g j n) (λ j. arm g j (n + 1)) (g n) n (λ j q. arm-more g j n q),
-        ap (λ y. f n * y) (arm-own g n),
-      )
+    -- the shear times the height, and the force times half of it
+    pub moment-more : (n : ℕ)
+        → moment force height (n + 1) .0 ≡ moment force height n .0 + shear force n .0 * height n .0 + force n .0 * (height n .0 / 2)
+    unfolding moment shear
+    moment-more n =
+        let f : ℕ → ℕ = λ j. force j .0 in
+        omega (
+          arith,
+          sumTo-more (λ j. f j * arm height j (n + 1) .0) n,
+          stretch f (λ j. arm height j n .0) (λ j. arm height j (n + 1) .0) (height n .0) n (λ j q. arm-more height j n q),
+          ap (λ y. f n * y) (arm-own height n),
+        )
 
 -- sums over lists of terms are sums over indices
 weighted-append : (ns : List ℕ) (ts : List Term) (n : ℕ) (x : Term) → length ns ≡ length ts
@@ -114,45 +117,45 @@ module _ (f : ℕ → ℕ) (x : ℕ → Term) where
 
 module _ (t : Tower) (w : Wind) (v : ValidWind t w) (n : ℕ) (within : n ≤ length (t .sections)) where
   reported-at : (margin : ℕ) → 0 < margin → (a : ℕ → ℕ) → ((j : ℕ) → j < n → 0 < a j)
-      → (j : ℕ) → j < n → Reported margin (forceAt t w j) (record { exact = exactAt t w j; arm = a j })
+      → (j : ℕ) → j < n → Reported margin (forceAt t w j .0) (record { exact = exactAt t w j; arm = a j })
   reported-at margin p a ha j q =
       record { sound = sound-at t w v j (omega arith); within = force-within t w v j (omega arith) margin p; arm = ha j q }
 
   -- the excess of a shear is never negative and below the margin times the sections down to the foot
-  pub shear-excess : (margin : ℕ) → 0 < margin → 0 < n → ExcessBelow (shearTerms t w n) (shearAt t w n) (margin * n)
-  unfolding shearTerms shearAt
+  pub shear-excess : (margin : ℕ) → 0 < margin → 0 < n → ExcessBelow (shearTerms t w n) (shearAt t w n .0) (margin * n)
+  unfolding shearTerms shear
   shear-excess margin p q =
-      let e : sumTo (λ j. forceAt t w j * 1) n ≡ sumTo (forceAt t w) n = sumTo-same _ _ n (λ j r. omega arith) in
+      let f : ℕ → ℕ = λ j. forceAt t w j .0 in
+      let e : sumTo (λ j. f j * 1) n ≡ sumTo f n = sumTo-same _ _ n (λ j r. omega arith) in
       rw (← e)
-      (subst (λ (k : ℕ). ExcessBelow (listTo (λ j. record { exact = exactAt t w j; arm = 1 }) n) (sumTo (λ j. forceAt t w j * 1) n) (margin * k))
+      (subst (λ (k : ℕ). ExcessBelow (listTo (λ j. record { exact = exactAt t w j; arm = 1 }) n) (sumTo (λ j. f j * 1) n) (margin * k))
       (sumTo-ones n)
-      (sum-excess (forceAt t w) (λ j. record { exact = exactAt t w j; arm = 1 }) margin n q
-      (reported-at margin p (λ _. 1) (λ j r. omega arith))))
+      (sum-excess f (λ j. record { exact = exactAt t w j; arm = 1 }) margin n q (reported-at margin p (λ _. 1) (λ j r. omega arith))))
 
   -- the excess of a moment is never negative and below the margin times the sum of its arms
-  pub moment-excess : (margin : ℕ) → 0 < margin → 0 < n → ExcessBelow (momentTerms t w n) (momentAt t w n) (margin * armsTo t n)
-  unfolding momentTerms momentAt armsTo
+  pub moment-excess : (margin : ℕ) → 0 < margin → 0 < n → ExcessBelow (momentTerms t w n) (momentAt t w n .0) (margin * armsTo t n .0)
+  unfolding momentTerms moment armsTo
   moment-excess margin p q =
-      sum-excess (forceAt t w) (λ j. record { exact = exactAt t w j; arm = arm (heightAt t) j n }) margin n q
-      (reported-at margin p (λ j. arm (heightAt t) j n)
+      sum-excess (λ j. forceAt t w j .0) (λ j. record { exact = exactAt t w j; arm = arm (heightAt t) j n .0 }) margin n q
+      (reported-at margin p (λ j. arm (heightAt t) j n .0)
       (λ j r. arm-positive (heightAt t) j n (let k : _ = height-at t w v j (omega arith) in omega arith)))
 
   -- the statements are about something: each term has fractions on either side
   pub lows : (a : ℕ → ℕ) → Forall₂ Low (listTo (λ j. whole 0) n) (listTo (λ j. record { exact = exactAt t w j; arm = a j }) n)
   lows a = forall-listTo _ _ n (λ j q. record { proper = whole-proper 0; atMost = nonneg-at t w v j (omega arith) })
 
-  pub highs : (a : ℕ → ℕ) → Forall₂ High (listTo (λ j. whole (forceAt t w j)) n) (listTo (λ j. record { exact = exactAt t w j; arm = a j }) n)
+  pub highs : (a : ℕ → ℕ) → Forall₂ High (listTo (λ j. whole (forceAt t w j .0)) n) (listTo (λ j. record { exact = exactAt t w j; arm = a j }) n)
   highs a =
       forall-listTo _ _ n
       (λ j q. record { proper = whole-proper _; atLeast = force-least t w v j (omega arith) .enough })
 
   -- the largest sums
-  pub shear-bound : shearAt t w n ≤ n * 2 ^ 27
-  unfolding shearAt
-  shear-bound = sumTo-bound (forceAt t w) (2 ^ 27) n (λ j q. force-bound t w v j (omega arith))
+  pub shear-bound : shearAt t w n .0 ≤ n * 2 ^ 27
+  unfolding shear
+  shear-bound = sumTo-bound (λ j. forceAt t w j .0) (2 ^ 27) n (λ j q. force-bound t w v j (omega arith))
 
-  pub moment-bound : momentAt t w n ≤ n * (2 ^ 27 * (n * 10_000))
-  unfolding momentAt
+  pub moment-bound : momentAt t w n .0 ≤ n * (2 ^ 27 * (n * 10_000))
+  unfolding moment
   moment-bound =
       sumTo-bound _ _ n
       (λ j q.

@@ -7,7 +7,7 @@ use Rattle.units.specs.declared.Length.{Length}
 use Rattle.model.specs.declared.Item.{Item}
 use Rattle.model.specs.Tower.{Tower, Wind}
 use Rattle.model.specs.Force.{itemSum}
-use Rattle.model.specs.Report.{areasAt, heightAt, exactAt, forceAt, shearAt, momentAt, rowAt, rowsTo, rowsOf}
+use Rattle.model.specs.Report.{areasAt, heightAt, exactAt, forceAt, rowAt, rowsTo, rowsOf}
 use Rattle.model.specs.Machine.{withItems}
 use Rattle.model.proofs.Lists.{sumBy-perm}
 
@@ -25,7 +25,7 @@ module _ (t : Tower) (w : Wind) (xs ys : List Item) (p : List·Permᴰ xs ys) wh
   force-order i = rw exact-order
 
   row-order : (i : ℕ) → rowAt (withItems t xs) w i ≡ rowAt (withItems t ys) w i
-  unfolding rowAt areasAt heightAt shearAt momentAt
+  unfolding areasAt heightAt
   row-order i =
       let e : forceAt (withItems t xs) w ≡ forceAt (withItems t ys) w = fun-ext force-order in
       rw e

@@ -5,16 +5,37 @@ use mathlib.Core.List.{List, _++_}
 use mathlib.Core.Option.{some}
 use native.Mathlib.Numerals.{add-one}
 use native.Mathlib.Omega.{arith}
-use lib.ListN.{length, drop, length-append}
+use lib.ListN.{length, drop, getD, length-append}
 use borrow.Author.Tests.{le-ltb}
 use Rattle.model.specs.Tower.{Tower, Wind}
-use Rattle.model.specs.Report.{rowAt, rowsTo, rowsOf}
+use Rattle.model.specs.Report.{areasAt, forceAt, shearAt, momentAt, row, rowAt, rowsTo, rowsOf}
 use Rattle.model.specs.Machine.{standing, filled, reportOut}
 
 module _ (t : Tower) (w : Wind) where
   pub length-row : (i : ℕ) → length (rowAt t w i) ≡ 6
-  unfolding rowAt
+  unfolding row
   length-row i = refl
+
+  -- which number is which
+  pub record Columns (i : ℕ) : Type 0 where
+    pub flat : getD (rowAt t w i) 0 0 ≡ areasAt t w i .flat .0
+    pub subcritical : getD (rowAt t w i) 1 0 ≡ areasAt t w i .subcritical .0
+    pub supercritical : getD (rowAt t w i) 2 0 ≡ areasAt t w i .supercritical .0
+    pub force : getD (rowAt t w i) 3 0 ≡ forceAt t w i .0
+    pub shear-at-foot : getD (rowAt t w i) 4 0 ≡ shearAt t w (i + 1) .0
+    pub moment-at-foot : getD (rowAt t w i) 5 0 ≡ momentAt t w (i + 1) .0
+
+  pub columns : (i : ℕ) → Columns i
+  unfolding row
+  columns i =
+      record {
+        flat = refl;
+        subcritical = refl;
+        supercritical = refl;
+        force = refl;
+        shear-at-foot = refl;
+        moment-at-foot = refl;
+      }
 
   pub rows-more : (n : ℕ) → rowsTo t w (n + 1) ≡ rowsTo t w n ++ rowAt t w n
   unfolding rowsTo

@@ -16,7 +16,7 @@ use Rattle.model.specs.Lists.{sumBy}
 use Rattle.model.specs.Areas.{groupArea, itemArea, gross, flowOf, areaIn, areasOf, solid}
 use Rattle.model.specs.Force.{m², solidity, C1, C2, c-f, c-c, c-p, K1, K2, quarters, halves, s, Kθ, coefficient, itemPart, itemSum, resistance, exact, exactForce}
 use Rattle.model.specs.Report.{exactAt}
-use Rattle.model.specs.Samples.{towerFor, windFor, exactOf, flat, round, dish, Entry, equals, table, Holds, Every, none, also, OnlyThese, StarredSamples}
+use Rattle.model.specs.Samples.{towerFor, windFor, exactOf, flat, round, dish, tubeForce, Entry, equals, table, Holds, Every, none, also, OnlyThese, StarredSamples}
 
 -- the tests
 atMostᵇ : Fraction → Exact → Bool
@@ -84,10 +84,12 @@ only-these e n h =
     }
 
 pub starred-samples : StarredSamples
-unfolding _//_ whole _⊕_ _⊖_ _·_ _≼ᵇ_ _⊞_ _⊙_ square atLeastᵇ sumBy groupArea itemArea gross flowOf areaIn areasOf solid m² solidity C1 C2 c-f c-c c-p K1 K2 quarters halves s Kθ coefficient itemPart itemSum resistance exact exactForce exactAt towerFor windFor exactOf flat round dish equals table atMostᵇ holds all-hold only
+unfolding _//_ whole _⊕_ _⊖_ _·_ _≼ᵇ_ _⊞_ _⊙_ square atLeastᵇ sumBy groupArea itemArea gross flowOf areaIn areasOf solid m² solidity C1 C2 c-f c-c c-p K1 K2 quarters halves s Kθ coefficient itemPart itemSum resistance exact exactForce exactAt towerFor windFor exactOf flat round dish tubeForce equals table atMostᵇ holds all-hold only
 starred-samples =
     record {
       forces = all-held table refl;
+      root-0817 = record { cross = refl };
+      root-06672 = record { rational = record { cross = refl }; square = record { cross = refl } };
       reported-7033 = only-these _ 7031 refl;
       reported-4080 = only-these _ 4078 refl;
       reported-2600 = only-these _ 2598 refl;

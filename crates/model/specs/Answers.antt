@@ -1,13 +1,10 @@
--- Document 01, "When a call is turned down": the number of each refusal; and what the answers say in its numbers.
+-- Document 01, "When a call is turned down": the number of each refusal, and of each answer that is a number alone.
+-- The answers of check and write have values too: Machine has `CheckSays` and `WriteSays`.
 use Prim.Native.Nat.{ℕ}
 use Rattle.model.specs.declared.Refusal.{Refusal}
 use Rattle.model.specs.declared.Refusal.the-variants as refusal
 use Rattle.model.specs.declared.Answer.{Answer}
 use Rattle.model.specs.declared.Answer.the-variants as answer
-use Rattle.model.specs.declared.CheckAnswer.{CheckAnswer}
-use Rattle.model.specs.declared.CheckAnswer.the-variants as check
-use Rattle.model.specs.declared.WriteAnswer.{WriteAnswer}
-use Rattle.model.specs.declared.WriteAnswer.the-variants as write
 
 abbrev pub refusalNumber : Refusal → ℕ
 refusalNumber refusal.NoTower = 1
@@ -37,12 +34,3 @@ refusalNumber refusal.OutputShort = 22
 abbrev pub answerNumber : Answer → ℕ
 answerNumber answer.Accepted = 0
 answerNumber (answer.Refused r) = refusalNumber r
-
-abbrev pub checkNumber : CheckAnswer → ℕ
-checkNumber (check.Over i) = 0
-checkNumber check.NoneOver = 0
-checkNumber (check.Refused r) = refusalNumber r
-
-abbrev pub writeNumber : WriteAnswer → ℕ
-writeNumber (write.Written n) = 0
-writeNumber (write.Refused r) = refusalNumber r

@@ -58,16 +58,16 @@ sameFlow flow.Supercritical flow.Subcritical = false
 sameFlow flow.Supercritical flow.Supercritical = true
 
 -- a group's area where its flow is of the class, else 0
-unfoldable pub areaIn : Flow → Length → ℕ → Group → ℕ
-areaIn class t q g = cond (sameFlow class (flowOf t q (g .member))) (groupArea t g .0) 0
+unfoldable pub areaIn : Flow → Length → ℕ → Group → Area
+areaIn class t q g = cond (sameFlow class (flowOf t q (g .member))) (groupArea t g) (record { 0 = 0 })
 
 -- A_f flat, A_c subcritical, A_p supercritical
 unfoldable pub areasOf : Length → ℕ → List Group → Areas
 areasOf t q gs =
     record {
-      flat = record { 0 = sumBy (areaIn flow.Flat t q) gs };
-      subcritical = record { 0 = sumBy (areaIn flow.Subcritical t q) gs };
-      supercritical = record { 0 = sumBy (areaIn flow.Supercritical t q) gs };
+      flat = record { 0 = sumBy (λ g. areaIn flow.Flat t q g .0) gs };
+      subcritical = record { 0 = sumBy (λ g. areaIn flow.Subcritical t q g .0) gs };
+      supercritical = record { 0 = sumBy (λ g. areaIn flow.Supercritical t q g .0) gs };
     }
 
 -- A_S is their sum

@@ -1,13 +1,13 @@
 -- Lists of calls: an entry is one of the seven calls with its arguments as fixed values; and the machine's run over a list.
 use Prim.Native.Nat.{ℕ, _^_}
-use mathlib.Core.Path.{_≡_}
-use mathlib.Core.Bool.{Bool, true, cond}
+use mathlib.Core.Bool.{Bool, true, cond, _&&_}
 use mathlib.Core.List.{List, [], _∷_, _++_, map}
 use lib.Dec.{ltb, eqb}
 use lib.ListN.{length}
 use Rattle.model.specs.declared.Item.{Item}
 use Rattle.model.specs.Lists.{allOf}
-use Rattle.model.specs.Tower.{Wind}
+use Rattle.model.specs.Tower.{Tower, Wind}
+use Rattle.model.specs.Bytes.{fileOf}
 use Rattle.model.specs.Machine.{
   State,
   erectRefusal,
@@ -23,6 +23,7 @@ use Rattle.model.specs.Machine.{
   checkRefusal,
   writeRefusal,
   writeOut,
+  withItems,
 }
 
 -- report and write are given what the lent slice holds
@@ -35,18 +36,32 @@ pub data Call : Type 0 where
   check : Call
   write : List ℕ → Call
 
--- the arguments are values of their types: a file has bytes, and an item's number has 2 of them
-abbrev pub isByte : ℕ → Bool
-isByte b = ltb b 256
+-- the arguments are values of their types: 8 bits for a byte and an item's section, 16 for its number, its thousandths
+-- and a pressure, 32 for lengths and the other numbers of a wind, 64 for a number of a report
+abbrev pub bits : ℕ → ℕ → Bool
+bits w n = ltb n (2 ^ w)
+
+abbrev pub typedItem : Item → Bool
+typedItem it =
+    bits 16 (it .number)
+    && bits 8 (it .section)
+    && bits 32 (it .width .0)
+    && bits 32 (it .length .0)
+    && bits 16 (it .bare)
+    && bits 16 (it .iced)
+    && bits 16 (it .position)
+
+abbrev pub typedWind : Wind → Bool
+typedWind w = bits 32 (w .direction) && bits 32 (w .ice) && bits 32 (w .factor) && allOf (bits 16) (w .pressures)
 
 abbrev pub typed : Call → Bool
-typed (erect file) = allOf isByte file
-typed (hang it) = ltb (it .number) (2 ^ 16)
-typed (takeDown n) = true
-typed (wind w) = true
-typed (report lent) = true
+typed (erect file) = allOf (bits 8) file
+typed (hang it) = typedItem it
+typed (takeDown n) = bits 16 n
+typed (wind w) = typedWind w
+typed (report lent) = allOf (bits 64) lent
 typed check = true
-typed (write lent) = allOf isByte lent
+typed (write lent) = allOf (bits 8) lent
 
 -- the first refusal whose condition is met, or 0
 abbrev pub refusalOf : State → Call → ℕ
@@ -68,7 +83,16 @@ step m (report lent) = m
 step m check = m
 step m (write lent) = m
 
--- what the lent slice of a call holds after it
+-- what the slice that a call is lent holds before and after it; [] where none is lent
+abbrev pub lentBefore : Call → List ℕ
+lentBefore (erect file) = file
+lentBefore (hang it) = []
+lentBefore (takeDown n) = []
+lentBefore (wind w) = w .pressures
+lentBefore (report lent) = lent
+lentBefore check = []
+lentBefore (write lent) = lent
+
 abbrev pub lentAfter : State → Call → List ℕ
 lentAfter m (erect file) = file
 lentAfter m (hang it) = []
@@ -83,16 +107,11 @@ abbrev pub run : State → List Call → State
 run m [] = m
 run m (c ∷ cs) = run (step m c) cs
 
--- a tower newly erected: from a file, one hang for each item in this order, wind, then a report
-abbrev pub newlyErected : List ℕ → List Item → Wind → List ℕ → List Call
-newlyErected file items w lent = erect file ∷ (map hang items ++ (wind w ∷ report lent ∷ []))
+-- the tower newly erected: from its file with no items, one hang for each item in this order, wind, then a report
+abbrev pub newlyErected : Tower → List Item → Wind → List ℕ → List Call
+newlyErected t items w lent = erect (fileOf (withItems t [])) ∷ (map hang items ++ (wind w ∷ report lent ∷ []))
 
 -- the number of the first call of a list that is turned down, or 0
 abbrev pub firstRefusal : State → List Call → ℕ
 firstRefusal m [] = 0
 firstRefusal m (c ∷ cs) = cond (eqb (refusalOf m c) 0) (firstRefusal (step m c) cs) (refusalOf m c)
-
--- none of the calls is turned down
-pub data Accepted : State → List Call → Type 0 where
-  none : {m : State} → Accepted m []
-  more : {m : State} {c : Call} {cs : List Call} → refusalOf m c ≡ 0 → Accepted (step m c) cs → Accepted m (c ∷ cs)

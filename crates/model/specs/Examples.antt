@@ -1,9 +1,9 @@
 -- Examples of the tower file, of each of the 22 refusals and of their order, as one table about the machine.
 use Prim.Native.Nat.{ℕ, _-_, _/_}
 use mathlib.Core.Path.{_≡_}
-use mathlib.Core.Bool.{Bool, true}
+use mathlib.Core.Bool.{Bool, true, false}
 use mathlib.Core.List.{List, [], _∷_, _++_}
-use mathlib.Core.Option.{none}
+use mathlib.Core.Option.{none, some}
 use lib.Dec.{eqb}
 use lib.ListN.{length, replicate}
 use Rattle.model.specs.declared.Legs.the-variants.{Three, Four}
@@ -11,13 +11,16 @@ use Rattle.model.specs.declared.Member.the-variants.{Flat, Round}
 use Rattle.model.specs.declared.Flow.the-variants.{Subcritical}
 use Rattle.model.specs.declared.Item.{Item}
 use Rattle.model.specs.Lists.{listTo, allOf}
-use Rattle.model.specs.Tower.{Tower}
+use Rattle.model.specs.Tower.{Tower, Wind}
 use Rattle.model.specs.Areas.{thickness, flowOf}
 use Rattle.model.specs.Reading.{got}
 use Rattle.model.specs.File.{readFile}
 use Rattle.model.specs.Bytes.{bytes, fileOf}
 use Rattle.model.specs.Machine.{no-tower, standing}
-use Rattle.model.specs.Calls.{Call, erect, hang, takeDown, wind, report, check, write, refusalOf, run}
+use Rattle.model.specs.Report.{exceeds}
+use Rattle.model.specs.Host.{pressuresOf, hostRefusal}
+use Rattle.model.specs.Valid.{ValidWind}
+use Rattle.model.specs.Calls.{Call, erect, hang, takeDown, wind, report, check, write, typed, refusalOf, lentAfter, run, newlyErected}
 
 -- a file of one section, b by h, of n groups, and of m items
 unfoldable pub fileWith : ℕ → ℕ → ℕ → ℕ → List ℕ → ℕ → List ℕ → List ℕ
@@ -70,8 +73,43 @@ erectFour = erect (plain 4) ∷ []
 abbrev pub hangFirst : ℕ → List Call
 hangFirst n = erect (plain 4) ∷ listTo (λ i. hang (itemOf i 0 300)) n
 
+abbrev pub secondWind : Wind
+secondWind = record { direction = 3; ice = 2; factor = 1000; pressures = 1000 ∷ [] }
+
 abbrev pub steady : Call
 steady = windWith 0 0 1000 (1000 ∷ [])
+
+-- a triangle of one section with a supercritical tube
+unfoldable pub triangle : Tower
+triangle =
+    record {
+      legs = Three;
+      sections =
+          record {
+            width = record { 0 = 2000 };
+            height = record { 0 = 5000 };
+            allowance = record { 0 = 9000 };
+            groups = record { member = Round (record { 0 = 300 }); length = record { 0 = 6100 } } ∷ [];
+          }
+          ∷ [];
+      items = [];
+    }
+
+-- 32 sections of 8 groups, and 64 items
+unfoldable pub largestTower : Tower
+largestTower =
+    record {
+      legs = Three;
+      sections =
+          replicate 32
+          (record {
+            width = record { 0 = 15_000 };
+            height = record { 0 = 10_000 };
+            allowance = record { 0 = 4_294_967_295 };
+            groups = replicate 8 (record { member = Round (record { 0 = 75 }); length = record { 0 = 200_000 } });
+          });
+      items = listTo (λ i. itemOf (65_535 - i) (i / 2) 3000) 64;
+    }
 
 unfoldable pub files : List Example
 files =
@@ -84,6 +122,8 @@ files =
     ∷ gives [] (erect (4 ∷ 1 ∷ 0 ∷ 99 ∷ [])) 5
     ∷ gives [] (erect (fileWith 4 2000 6001 1 (group 0 100 24_000) 0 [])) 5
     ∷ gives [] (erect (fileWith 4 2000 10_002 1 (group 0 100 24_000) 0 [])) 5
+    ∷ gives [] (erect (fileWith 4 2000 98 1 (group 0 100 100) 0 [])) 5
+    ∷ gives [] (erect (fileWith 4 2000 100 1 (group 0 100 100) 0 [])) 0
     ∷ gives [] (erect (fileWith 4 2000 6000 0 [] 0 [])) 6
     ∷ gives [] (erect (fileWith 4 2000 6000 9 [] 0 [])) 6
     ∷ gives [] (erect (fileWith 4 2000 6000 1 (group 2 100 24_000) 0 [])) 7
@@ -100,6 +140,8 @@ files =
     ∷ gives [] (erect (fileWith 4 2000 6000 1 (group 0 100 24_000) 1 (itemWith 7 0 3001))) 12
     ∷ gives [] (erect (plain 4 ++ (0 ∷ []))) 13
     ∷ gives [] (erect (fileWith 3 2000 6000 1 (group 0 100 24_000) 1 (itemWith 7 0 300))) 0
+    -- the largest file
+    ∷ gives [] (erect (fileOf largestTower)) 0
     ∷ []
 
 unfoldable pub calls : List Example
@@ -115,6 +157,7 @@ calls =
     ∷ gives (hangFirst 64) (hang (itemOf 64 0 300)) 9
     ∷ gives (hangFirst 64) (hang (itemOf 7 1 3001)) 9
     ∷ gives (hangFirst 8) (hang (itemOf 7 1 3001)) 10
+    ∷ gives (hangFirst 8) (hang (itemOf 263 0 300)) 0
     ∷ gives (hangFirst 7) (hang (itemOf 7 1 3001)) 11
     ∷ gives (hangFirst 7) (hang (itemOf 7 0 3001)) 12
     ∷ gives (hangFirst 7) (takeDown 7) 14
@@ -160,22 +203,6 @@ plainTower items =
       items = items;
     }
 
--- 32 sections of 8 groups, and 64 items
-unfoldable pub largestTower : Tower
-largestTower =
-    record {
-      legs = Three;
-      sections =
-          replicate 32
-          (record {
-            width = record { 0 = 15_000 };
-            height = record { 0 = 10_000 };
-            allowance = record { 0 = 4_294_967_295 };
-            groups = replicate 8 (record { member = Round (record { 0 = 75 }); length = record { 0 = 200_000 } });
-          });
-      items = listTo (λ i. itemOf (65_535 - i) (i / 2) 3000) 64;
-    }
-
 pub record MachineExamples : Type 0 where
   -- the bytes themselves, high byte first
   pub file : plain 4 ≡ 4 ∷ 1 ∷ 7 ∷ 208 ∷ 23 ∷ 112 ∷ 0 ∷ 0 ∷ 0 ∷ 0 ∷ 1 ∷ 0 ∷ 0 ∷ 100 ∷ 0 ∷ 0 ∷ 93 ∷ 192 ∷ 0 ∷ []
@@ -187,5 +214,32 @@ pub record MachineExamples : Type 0 where
   -- an item joins at the list's end; the others keep their order
   pub order : run no-tower (hangFirst 3 ++ (takeDown 1 ∷ hang (itemOf 1 0 400) ∷ []))
       ≡ standing (plainTower (itemOf 0 0 300 ∷ itemOf 2 0 300 ∷ itemOf 1 0 400 ∷ [])) none
+  -- a wind replaces the one before it, and stays while items come and go
+  pub second-wind : run no-tower (erectFour ++ (steady ∷ wind secondWind ∷ hang (itemOf 7 0 300) ∷ hang (itemOf 8 0 300) ∷ takeDown 7 ∷ []))
+      ≡ standing (plainTower (itemOf 8 0 300 ∷ [])) (some secondWind)
+  -- the newly erected tower, with its items in another order
+  pub anew : run no-tower (newlyErected (plainTower (itemOf 7 0 300 ∷ itemOf 8 0 300 ∷ [])) (itemOf 8 0 300 ∷ itemOf 7 0 300 ∷ []) secondWind (replicate 6 0))
+      ≡ standing (plainTower (itemOf 8 0 300 ∷ itemOf 7 0 300 ∷ [])) (some secondWind)
+  pub typed-number : typed (hang (itemOf 65_535 0 300)) ≡ true
+  pub untyped-number : typed (hang (itemOf 65_536 0 300)) ≡ false
+  pub untyped-byte : typed (erect (256 ∷ [])) ≡ false
+  -- towers and winds that are valid
+  pub valid-square : ValidWind (plainTower (itemOf 7 0 300 ∷ [])) secondWind
+  pub valid-triangle : ValidWind triangle (record { direction = 2; ice = 0; factor = 2000; pressures = 5000 ∷ [] })
+  -- the C call: 18 is a count of bytes, 22 comes last
+  pub host : hostRefusal (plain 4) 0 0 1000 (3 ∷ 232 ∷ []) 48 ≡ 0
+  pub host-file-first : hostRefusal (5 ∷ []) 24 0 1000 [] 0 ≡ 3
+  pub host-direction-first : hostRefusal (plain 4) 24 0 1000 [] 0 ≡ 15
+  pub host-odd : hostRefusal (plain 4) 0 0 1000 (3 ∷ 232 ∷ 0 ∷ []) 48 ≡ 18
+  pub host-pressure : hostRefusal (plain 4) 0 0 1000 (19 ∷ 137 ∷ []) 48 ≡ 19
+  pub host-short : hostRefusal (plain 4) 0 0 1000 (3 ∷ 232 ∷ []) 47 ≡ 22
+  pub host-pressures : pressuresOf (3 ∷ 232 ∷ 0 ∷ 7 ∷ []) ≡ 1000 ∷ 7 ∷ []
+  -- write at the front of the lent bytes, and the rest stays
+  pub write-out : lentAfter (standing (plainTower []) none) (write (replicate 21 9)) ≡ plain 4 ++ (9 ∷ 9 ∷ [])
+  pub write-refused : lentAfter (standing (plainTower []) none) (write (replicate 18 9)) ≡ replicate 18 9
+  -- a shear that is equal to the allowance does not exceed it, and 0 is no allowance
+  pub exceeded : exceeds (record { 0 = 501 }) (record { 0 = 500 }) ≡ true
+  pub reached : exceeds (record { 0 = 500 }) (record { 0 = 500 }) ≡ false
+  pub not-stated : exceeds (record { 0 = 501 }) (record { 0 = 0 }) ≡ false
   -- under ice every round is subcritical
   pub iced-round : flowOf (thickness 1) 5000 (Round (record { 0 = 1000 })) ≡ Subcritical

@@ -62,11 +62,11 @@ K2 φ =
     (cond (8 // 10 ≼ᵇ φ) (2 // 10)
     (cond (φ ≼ᵇ 5 // 10) φ (whole 1 ⊖ φ)))
 
--- s = sin²(2θ) on four legs, θ = 15° k: 0, 1/4, 3/4, 1, 3/4, 1/4 for k mod 6 = 0 to 5
+-- s = sin²(2θ) on four legs, θ = 15° k, in quarters: 0, 1/4, 3/4, 1, 3/4, 1/4 for k mod 6 = 0 to 5
 unfoldable pub quarters : ℕ → ℕ
 quarters k = getD (0 ∷ 1 ∷ 3 ∷ 4 ∷ 3 ∷ 1 ∷ []) (k % 6) 0
 
--- s = sin²(1.5θ) on three legs: 0, 1/2, 1, 1/2 for k mod 8 = 0, 2, 4, 6; an odd k is turned down
+-- s = sin²(1.5θ) on three legs, in halves: 0, 1/2, 1, 1/2 for k mod 8 = 0, 2, 4, 6; an odd k is turned down
 unfoldable pub halves : ℕ → ℕ
 halves k = getD (0 ∷ 0 ∷ 1 ∷ 0 ∷ 2 ∷ 0 ∷ 1 ∷ 0 ∷ []) (k % 8) 0
 

@@ -14,7 +14,7 @@ low to high = record { low = low; high = high }
 abbrev pub within : Range → ℕ → Bool
 within r x = leb (r .low) x && leb x (r .high)
 
--- the tower file: legs; counts; mm, but for the kind
+-- the tower file: the number of legs, of sections and of groups; lengths in mm; kinds 0 and 1
 abbrev pub legCount : Range
 legCount = 3 to 4
 
@@ -42,7 +42,7 @@ memberLength = 1 to 200_000
 abbrev pub itemCount : Range
 itemCount = 0 to 64
 
--- an item: mm, and thousandths
+-- an item: lengths in mm; coefficients and the position factor K in thousandths
 abbrev pub itemWidth : Range
 itemWidth = 1 to 3000
 
@@ -55,7 +55,7 @@ coefficients = 0 to 3000
 abbrev pub positionFactor : Range
 positionFactor = 0 to 1000
 
--- the wind: multiples of 15 degrees; classes; thousandths; N/m²
+-- the wind: k, where the direction is 15 degrees times k; ice classes; the factor in thousandths; pressures in N/m²
 abbrev pub directions : Range
 directions = 0 to 23
 

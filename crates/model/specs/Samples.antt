@@ -2,8 +2,8 @@
 use Prim.Native.Nat.{ℕ, _+_, _-_}
 use mathlib.Core.Path.{_≡_}
 use mathlib.Core.List.{List, [], _∷_}
-use Rattle.exact.specs.Fraction.{Fraction, _//_, whole}
-use Rattle.exact.specs.Number.{Exact, AtMost, AtLeast, Within}
+use Rattle.exact.specs.Fraction.{Fraction, _//_, whole, _·_, _≈_}
+use Rattle.exact.specs.Number.{Exact, _⊙_, Same, AtMost, AtLeast, Within}
 use Rattle.model.specs.declared.Legs.{Legs}
 use Rattle.model.specs.declared.Legs.the-variants.{Three, Four}
 use Rattle.model.specs.declared.Member.{Member}
@@ -108,9 +108,16 @@ pub record OnlyThese (e : Exact) (n : ℕ) : Type 0 where
   pub none-below : Within 2 e (n - 1) → ⊥
   pub none-above : Within 2 e (n + 2) → ⊥
 
+-- 2.4 m² at 1 000 N/m²: 2 400 (1.9 − √0.6672) newtons
+unfoldable pub tubeForce : Exact
+tubeForce = whole 2400 ⊙ record { rational = 19 // 10; factor = whole 1; radicand = 6672 // 10_000 }
+
 -- the table's statement
 pub record StarredSamples : Type 0 where
   pub forces : Every Holds table
+  -- the root 0.817, and 1.9 − √0.6672
+  pub root-0817 : exactOf (round Three 5000 300 6100) .radicand ≈ 817 // 1000 · 817 // 1000
+  pub root-06672 : Same (exactOf (round Three 6000 300 8000)) tubeForce
   pub reported-7033 : OnlyThese (exactOf (flat Four 0 0 [])) 7033
   pub reported-4080 : OnlyThese (exactOf (round Four 6000 100 24_000)) 4080
   pub reported-2600 : OnlyThese (exactOf (round Three 6000 300 8000)) 2600

@@ -1,4 +1,4 @@
--- The towers that erect and hang let in, and the winds that such a tower takes: what every state of the machine has.
+-- The towers that erect and hang let in, and the winds that such a tower takes.
 use Prim.Native.Nat.{ℕ, _%_, _^_}
 use mathlib.Core.Path.{_≡_}
 use mathlib.Core.Bool.{Bool, true, not, _&&_}

@@ -26,6 +26,7 @@ fn answer() -> ExitCode {
     print!("{}", vectors.table());
     show("files", &vectors.file_refusals());
     show("calls but erect", &vectors.call_refusals());
+    show("host calls", &vectors.host_refusals());
     let missing = vectors.missing();
     for refusal in &missing {
         eprintln!("vectors: {refusal}");

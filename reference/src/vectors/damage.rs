@@ -15,11 +15,11 @@ const FIRST_KIND: usize = 11;
 pub fn any_file(random: &mut Random) -> Vec<u8> {
     let mut tower = small_tower(random, 2);
     if random.chance(55) {
-        spoil(random, &mut tower);
+        damage_field(random, &mut tower);
     }
     let mut bytes = file::write(&tower);
     if random.chance(40) {
-        strike(random, &mut bytes, tower.items.len());
+        damage_bytes(random, &mut bytes, tower.items.len());
     }
     bytes
 }
@@ -30,21 +30,21 @@ fn end(random: &mut Random, low: u32, high: u32) -> u32 {
 }
 
 /// Damages one field.
-fn spoil(random: &mut Random, tower: &mut Tower) {
+fn damage_field(random: &mut Random, tower: &mut Tower) {
     let sections = tower.sections.len();
     let place = random.within(0, sections as u32 - 1) as usize;
     if tower.items.is_empty() || random.chance(60) {
-        spoil_section(random, &mut tower.sections[place]);
+        damage_section(random, &mut tower.sections[place]);
     } else if tower.items.len() > 1 && random.chance(30) {
         let last = tower.items.len() - 1;
         tower.items[last].number = tower.items[0].number;
     } else {
         let item = random.within(0, tower.items.len() as u32 - 1) as usize;
-        spoil_item(random, &mut tower.items[item], sections);
+        damage_item(random, &mut tower.items[item], sections);
     }
 }
 
-fn spoil_section(random: &mut Random, section: &mut Section) {
+fn damage_section(random: &mut Random, section: &mut Section) {
     let group = random.within(0, section.groups.len() as u32 - 1) as usize;
     match random.within(0, 6) {
         0 => section.width = Length(end(random, 100, 15_000)),
@@ -58,7 +58,7 @@ fn spoil_section(random: &mut Random, section: &mut Section) {
 }
 
 /// Damages one field of an item; with so many sections.
-pub fn spoil_item(random: &mut Random, item: &mut Item, sections: usize) {
+pub fn damage_item(random: &mut Random, item: &mut Item, sections: usize) {
     match random.within(0, 5) {
         0 => item.section = random.pick(&[sections as u8, 255]),
         1 => item.width = Length(end(random, 1, 3_000)),
@@ -70,7 +70,7 @@ pub fn spoil_item(random: &mut Random, item: &mut Item, sections: usize) {
 }
 
 /// Damages the bytes of a file with so many items.
-fn strike(random: &mut Random, bytes: &mut Vec<u8>, items: usize) {
+fn damage_bytes(random: &mut Random, bytes: &mut Vec<u8>, items: usize) {
     let any = random.within(0, bytes.len() as u32 - 1) as usize;
     let item_count = bytes.len() - 1 - ITEM_BYTES * items;
     match random.within(0, 7) {

@@ -1,7 +1,7 @@
 //! Lists of calls on a fresh service, with valid and invalid arguments.
 
-use super::damage::{any_file, spoil_item};
-use super::{blow, number, Call, ListCase};
+use super::damage::{any_file, damage_item};
+use super::{number, set_wind, Call, ListCase};
 use crate::draw::{self, Random};
 use crate::file::{self, LONGEST_FILE};
 use crate::report::ROW;
@@ -43,7 +43,7 @@ fn make(service: &mut Service, call: &Call) -> u32 {
         Call::Erect(file) => number(service.erect(file)),
         Call::Hang(item) => number(service.hang(*item)),
         Call::TakeDown(item) => number(service.take_down(*item)),
-        Call::Wind(wind) => number(blow(service, wind)),
+        Call::Wind(wind) => number(set_wind(service, wind)),
         Call::Report(room) => number(service.report(&mut vec![0; *room])),
         Call::Check => number(service.check()),
         Call::Write(room) => number(service.write(&mut vec![0; *room])),
@@ -106,7 +106,7 @@ fn item(random: &mut Random, tower: &Tower) -> Item {
     };
     let mut item = draw::item(random, number, tower.sections.len());
     if random.chance(30) {
-        spoil_item(random, &mut item, tower.sections.len());
+        damage_item(random, &mut item, tower.sections.len());
     }
     item
 }

@@ -1,6 +1,6 @@
 //! The cases as definitions, in the terms of `definitions/Vectors.antt.in`.
 
-use super::{Call, FileCase, ListCase, TowerCase, Vectors};
+use super::{Call, FileCase, HostCase, ListCase, TowerCase, Vectors};
 use crate::tower::{Group, Item, Legs, Member, Section, Tower, Wind};
 use std::fmt::Display;
 
@@ -10,15 +10,17 @@ const HEAD: &str = include_str!("../../definitions/Vectors.antt.in");
 /// The first line says how many cases there are.
 pub fn table(vectors: &Vectors) -> String {
     let (towers, files) = (&vectors.towers, &vectors.files);
-    let lists = &vectors.lists;
+    let (lists, hosts) = (&vectors.lists, &vectors.hosts);
     format!(
-        "-- {} towers, {} files, {} lists of calls\n{HEAD}{}{}{}",
+        "-- {} towers, {} files, {} lists of calls, {} host calls\n{HEAD}{}{}{}{}",
         towers.len(),
         files.len(),
         lists.len(),
+        hosts.len(),
         definition("towers", "TowerCase", towers, tower_case),
         definition("files", "FileCase", files, file_case),
         definition("lists", "ListCase", lists, list_case),
+        definition("hosts", "HostCase", hosts, host_case),
     )
 }
 
@@ -42,9 +44,9 @@ fn numbers<T: Display>(all: &[T]) -> String {
 }
 
 fn tower_case(case: &TowerCase) -> String {
-    let rows = numbers(&case.rows);
+    let (rows, over) = (numbers(&case.rows), numbers(&case.over));
     format!(
-        "reported {} {} {rows}",
+        "reported {} {} {rows} {over}",
         tower(&case.tower),
         wind(&case.wind)
     )
@@ -58,6 +60,19 @@ fn list_case(case: &ListCase) -> String {
     let refusals = numbers(&case.refusals);
     let file = numbers(&case.file);
     format!("after {} {refusals} {file}", list(&case.calls, call))
+}
+
+fn host_case(case: &HostCase) -> String {
+    format!(
+        "host {} {} {} {} {} {} {}",
+        numbers(&case.file),
+        case.direction,
+        case.ice_class,
+        case.factor,
+        numbers(&case.pressures),
+        case.room,
+        case.refusal,
+    )
 }
 
 fn tower(tower: &Tower) -> String {

@@ -78,11 +78,11 @@ pub fn erected(tower: &Tower) -> Service {
 
 pub fn under_wind(tower: &Tower, wind: &Wind) -> Service {
     let mut service = erected(tower);
-    assert_eq!(blow(&mut service, wind), Ok(()));
+    assert_eq!(set_wind(&mut service, wind), Ok(()));
     service
 }
 
-pub fn blow(service: &mut Service, wind: &Wind) -> Result<(), Refusal> {
+pub fn set_wind(service: &mut Service, wind: &Wind) -> Result<(), Refusal> {
     service.wind(
         wind.direction,
         wind.ice_class,
@@ -169,9 +169,9 @@ pub fn random_service(random: &mut Random, most: u32) -> Service {
     let tower = random_tower(random, most);
     let mut service = erected(&tower);
     let mut wind = random_wind(random, &tower);
-    if blow(&mut service, &wind).is_err() {
+    if set_wind(&mut service, &wind).is_err() {
         wind.ice_class = 0;
-        assert_eq!(blow(&mut service, &wind), Ok(()));
+        assert_eq!(set_wind(&mut service, &wind), Ok(()));
     }
     service
 }

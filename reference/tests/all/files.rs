@@ -77,7 +77,7 @@ fn the_largest_file_has_2915_bytes() {
 }
 
 #[test]
-fn the_largest_file_blows_full_force_within_64_bits() {
+fn the_largest_forces_stay_within_64_bits() {
     let mut service = erected(&largest());
     assert_eq!(service.wind(3, 0, 2_000, &[5_000; 32]), Ok(()));
     let mut lent = [0; 6 * 32];

@@ -1,7 +1,7 @@
 //! The formula beyond the samples, and the faults that readers make.
 
 use crate::common::{
-    blow, decimal, erected, flat, item, random_service, round, rows, sample, sample_wind,
+    decimal, erected, flat, item, random_service, round, rows, sample, sample_wind, set_wind,
     under_wind,
 };
 use reference::areas::{areas, item_area};
@@ -131,7 +131,7 @@ fn the_root_near_a_full_face_is_kept() {
 fn thousands_of_bookings_leave_no_drift() {
     let tower = sample(Legs::Four, &[flat(100, 24_000)]);
     let mut service = erected(&tower);
-    assert_eq!(blow(&mut service, &sample_wind(&tower, 1, 0)), Ok(()));
+    assert_eq!(set_wind(&mut service, &sample_wind(&tower, 1, 0)), Ok(()));
     let first = rows(&service);
     for number in 0..5_000 {
         assert_eq!(service.hang(item(number)), Ok(()));

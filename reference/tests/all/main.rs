@@ -1,6 +1,7 @@
 //! All tests of the reference version.
 
 mod arithmetic;
+mod call_lists;
 mod call_refusals;
 mod common;
 mod expected;
@@ -9,6 +10,5 @@ mod files;
 mod formula;
 mod host;
 mod least_force;
-mod lives;
 mod samples;
 mod vectors;

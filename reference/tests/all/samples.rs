@@ -1,7 +1,7 @@
 //! Every sample of document 01.
 
 use crate::common::{
-    blow, decimal, erected, flat, item, round, rows, sample, sample_wind, section, tower,
+    decimal, erected, flat, item, round, rows, sample, sample_wind, section, set_wind, tower,
     under_wind,
 };
 use reference::areas::{areas, flow, Flow};
@@ -147,14 +147,14 @@ fn a_full_iced_face_is_accepted_and_one_more_is_20() {
     let groups = |last| [flat(80, 119_979), flat(1, 99), round(last, 1)];
     let full = sample(Legs::Four, &groups(1));
     let mut service = erected(&full);
-    assert_eq!(blow(&mut service, &sample_wind(&full, 0, 1)), Ok(()));
+    assert_eq!(set_wind(&mut service, &sample_wind(&full, 0, 1)), Ok(()));
     let areas = &rows(&service)[..3];
     assert_eq!(areas, [11_999_979, 21, 0]);
     let more = sample(Legs::Four, &groups(2));
     let mut service = erected(&more);
-    let refused = blow(&mut service, &sample_wind(&more, 0, 1));
+    let refused = set_wind(&mut service, &sample_wind(&more, 0, 1));
     assert_eq!(refused, Err(Refusal::IcedFaceOverfull));
-    assert_eq!(blow(&mut service, &sample_wind(&more, 0, 0)), Ok(()));
+    assert_eq!(set_wind(&mut service, &sample_wind(&more, 0, 0)), Ok(()));
 }
 
 #[test]
@@ -167,7 +167,7 @@ fn sixty_four_items_hold_and_the_next_is_9() {
     let before = service.clone();
     assert_eq!(service.hang(item(64)), Err(Refusal::ItemCount));
     assert_eq!(service, before);
-    assert_eq!(blow(&mut service, &sample_wind(&tower, 0, 0)), Ok(()));
+    assert_eq!(set_wind(&mut service, &sample_wind(&tower, 0, 0)), Ok(()));
     // 7 032.96 + 64 times 576
     assert_eq!(rows(&service)[3], 43_897);
     assert_eq!(service.take_down(0), Ok(()));

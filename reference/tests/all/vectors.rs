@@ -31,6 +31,7 @@ fn there_are_enough_cases_and_every_refusal_is_reached() {
     assert!(vectors.towers.len() >= 150);
     assert!(vectors.files.len() >= 400);
     assert!(vectors.lists.len() >= 60);
+    assert!(vectors.hosts.len() >= 200);
     assert_eq!(vectors.missing(), [""; 0]);
     for case in &vectors.lists {
         assert_eq!((case.calls.len(), case.refusals.len()), (25, 25));
@@ -48,9 +49,11 @@ fn a_refusal_that_is_not_reached_is_named() {
     let mut vectors = Vectors::all();
     vectors.files.retain(|case| case.refusal != 8);
     vectors.lists.retain(|case| !case.refusals.contains(&20));
+    vectors.hosts.retain(|case| case.refusal != 18);
     let missing = vectors.missing();
     assert!(missing.contains(&"no file has refusal 8".to_string()));
     assert!(missing.contains(&"no call has refusal 20".to_string()));
+    assert!(missing.contains(&"no host's call has refusal 18".to_string()));
 }
 
 #[test]
@@ -72,6 +75,24 @@ fn the_solidity_ratios_reach_the_limits_and_the_full_face() {
                 assert_eq!(found.contains(&(tenths, 1)), tenths < 10);
             }
         }
+    }
+}
+
+#[test]
+fn allowances_are_at_the_shears_and_on_either_side() {
+    let vectors = Vectors::all();
+    let mut seen = BTreeSet::new();
+    for case in &vectors.towers {
+        for (section, over) in case.over.iter().enumerate() {
+            let shear = case.rows[6 * section + 4] as i64;
+            let allowance = case.tower.sections[section].allowance;
+            let beside = allowance.map(|newtons| newtons.0 as i64 - shear);
+            seen.insert((beside, *over));
+        }
+    }
+    assert!(seen.contains(&(Some(-1), 1)));
+    for beside in [None, Some(0), Some(1)] {
+        assert!(seen.contains(&(beside, 0)), "{beside:?}");
     }
 }
 

@@ -1,6 +1,6 @@
 //! Long lists of calls on one service.
 
-use crate::common::{blow, random_tower, random_wind, rows};
+use crate::common::{random_tower, random_wind, rows, set_wind};
 use reference::draw::{self, Random};
 use reference::file;
 use reference::refusal::Refusal;
@@ -8,26 +8,26 @@ use reference::service::Service;
 use reference::tower::{Item, Tower, Wind};
 use reference::units::Length;
 
-/// A second bookkeeping of what the calls left.
+/// What the calls should have left, kept beside the service.
 #[derive(Clone, Default)]
-struct Ledger {
+struct Kept {
     tower: Option<Tower>,
     wind: Option<Wind>,
 }
 
 /// Makes one random call; the answer, and what it should leave.
-fn call(random: &mut Random, service: &mut Service, ledger: &mut Ledger) -> Result<(), Refusal> {
+fn call(random: &mut Random, service: &mut Service, kept: &mut Kept) -> Result<(), Refusal> {
     match random.within(0, 99) {
-        0..=4 => erect(random, service, ledger),
-        5..=39 => hang(random, service, ledger),
+        0..=4 => erect(random, service, kept),
+        5..=39 => hang(random, service, kept),
         40..=64 => {
             let number = random.within(0, 80) as u16;
             service.take_down(number)?;
-            let tower = ledger.tower.as_mut().expect("a tower");
+            let tower = kept.tower.as_mut().expect("a tower");
             tower.items.retain(|item| item.number != number);
             Ok(())
         }
-        65..=79 => wind(random, service, ledger),
+        65..=79 => wind(random, service, kept),
         80..=89 => service.check().map(|_| ()),
         _ => service
             .write(&mut vec![0; random.within(0, 800) as usize])
@@ -35,34 +35,34 @@ fn call(random: &mut Random, service: &mut Service, ledger: &mut Ledger) -> Resu
     }
 }
 
-fn erect(random: &mut Random, service: &mut Service, ledger: &mut Ledger) -> Result<(), Refusal> {
+fn erect(random: &mut Random, service: &mut Service, kept: &mut Kept) -> Result<(), Refusal> {
     let tower = random_tower(random, 3);
     let mut bytes = file::write(&tower);
     if random.chance(50) {
         bytes.pop();
     }
     service.erect(&bytes)?;
-    ledger.tower = Some(tower);
-    ledger.wind = None;
+    kept.tower = Some(tower);
+    kept.wind = None;
     Ok(())
 }
 
-fn hang(random: &mut Random, service: &mut Service, ledger: &mut Ledger) -> Result<(), Refusal> {
+fn hang(random: &mut Random, service: &mut Service, kept: &mut Kept) -> Result<(), Refusal> {
     let number = random.within(0, 80) as u16;
     let mut item = draw::item(random, number, 3);
     if random.chance(5) {
         item.width = Length(0);
     }
     service.hang(item)?;
-    ledger.tower.as_mut().expect("a tower").items.push(item);
+    kept.tower.as_mut().expect("a tower").items.push(item);
     Ok(())
 }
 
-fn wind(random: &mut Random, service: &mut Service, ledger: &mut Ledger) -> Result<(), Refusal> {
+fn wind(random: &mut Random, service: &mut Service, kept: &mut Kept) -> Result<(), Refusal> {
     let tower = random_tower(random, 3);
-    let wind = random_wind(random, ledger.tower.as_ref().unwrap_or(&tower));
-    blow(service, &wind)?;
-    ledger.wind = Some(wind);
+    let wind = random_wind(random, kept.tower.as_ref().unwrap_or(&tower));
+    set_wind(service, &wind)?;
+    kept.wind = Some(wind);
     Ok(())
 }
 
@@ -75,7 +75,7 @@ fn newly_erected(tower: &Tower, wind: &Wind, order: &[Item]) -> Vec<u64> {
     for &item in order {
         assert_eq!(service.hang(item), Ok(()));
     }
-    assert_eq!(blow(&mut service, wind), Ok(()));
+    assert_eq!(set_wind(&mut service, wind), Ok(()));
     rows(&service)
 }
 
@@ -88,19 +88,19 @@ fn shuffled(random: &mut Random, items: &[Item]) -> Vec<Item> {
 }
 
 #[test]
-fn a_long_life_equals_a_new_tower() {
+fn a_long_list_of_calls_equals_a_new_tower() {
     let mut random = Random(0x5eed_0006);
-    let (mut service, mut ledger) = (Service::fresh(), Ledger::default());
+    let (mut service, mut kept) = (Service::fresh(), Kept::default());
     let (mut refused, mut reports) = (0, 0);
     for _ in 0..20_000 {
         let before = service.clone();
-        if call(&mut random, &mut service, &mut ledger).is_err() {
+        if call(&mut random, &mut service, &mut kept).is_err() {
             assert_eq!(service, before);
             refused += 1;
         }
-        assert_eq!(service.tower(), ledger.tower.as_ref());
-        assert_eq!(service.current_wind(), ledger.wind.as_ref());
-        if let (Some(tower), Some(wind)) = (&ledger.tower, &ledger.wind) {
+        assert_eq!(service.tower(), kept.tower.as_ref());
+        assert_eq!(service.current_wind(), kept.wind.as_ref());
+        if let (Some(tower), Some(wind)) = (&kept.tower, &kept.wind) {
             if random.chance(5) {
                 let order = shuffled(&mut random, &tower.items);
                 assert_eq!(rows(&service), newly_erected(tower, wind, &order));
