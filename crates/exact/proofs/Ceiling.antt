@@ -1,13 +1,14 @@
 -- Rounding up: the least whole number that is not below an exact number is unique, `ceiling` finds it, and it is less than 1 above.
 use Prim.Native.Nat.{ℕ, zero, suc, _+_, _-_, _≤_, _<_}
-use mathlib.Core.Path.{_≡_, refl, sym, subst, _∙_}
-use mathlib.Core.Bool.{Bool, true, false, cond, _||_, true≢false}
+use mathlib.Core.Path.{_≡_, refl, sym, subst}
+use mathlib.Core.Bool.{Bool, true, false, cond, _||_}
 use mathlib.Core.Logic.{_⊎_, inl, inr, ⊎-elim}
 use native.Mathlib.Omega.{arith}
 use native.Mathlib.Nat.{mul-le-mul-right, mul-lt-mul-of-pos-right}
 use borrow.Author.Tests.{leb-true, le-leb}
 use Rattle.exact.specs.Fraction.{Fraction, _//_, whole, _⊕_, _≼_, _≺_, _≼ᵇ_, Proper}
 use Rattle.exact.specs.Number.{Exact, AtMost, AtLeast, over, squared, Sound, Same, Within, Least, atLeastᵇ, first, ceiling}
+use Rattle.exact.proofs.Bools.{clash}
 use Rattle.exact.proofs.Order.{le-or-lt, ≼-or-≺}
 use Rattle.exact.proofs.Arithmetic.{whole-proper}
 use Rattle.exact.proofs.Compare.{ordered, at-least-up, least-same}
@@ -61,7 +62,7 @@ module _ (e : Exact) where
     where
       go : (a : Bool) → atLeastᵇ e (whole n) ≡ a → P (cond a n rest)
       go true k = now (test-at-least e (whole n) k)
-      go false k = later (λ h. true≢false (sym (at-least-test h) ∙ k))
+      go false k = later (λ h. clash (at-least-test h) k)
 
   first-enough : (more n : ℕ) → AtLeast e (whole (n + more)) → AtLeast e (whole (first e more n))
   unfolding first

@@ -1,3 +1,4 @@
+pub mod Bools
 pub mod Order
 pub mod Arithmetic
 pub mod Compare

@@ -21,7 +21,7 @@ use Rattle.model.specs.Force.{itemPart, itemSum, exact, exactForce}
 use Rattle.model.specs.Report.{noSection, sectionAt, pressureAt, heightAt, areasAt, exactAt, forceAt}
 use Rattle.model.specs.Machine.{refuseIf, directionFits, isTooSolid, windRules}
 use Rattle.model.specs.Valid.{sectionFits, itemFits, ValidTower, ValidWind}
-use Rattle.model.proofs.Bools.{and-split}
+use Rattle.exact.proofs.Bools.{and-split}
 use Rattle.model.proofs.Lists.{sumBy-bound, all-at, none-at}
 use Rattle.model.proofs.Solid.{solid-of}
 use Rattle.model.proofs.WholeForm.{grossOf}

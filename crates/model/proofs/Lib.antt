@@ -1,4 +1,3 @@
-pub mod Bools
 pub mod Lists
 pub mod Solid
 pub mod Coefficients

@@ -8,7 +8,7 @@ use native.Mathlib.Omega.{arith}
 use lib.ListN.{length, getD, take, length-append}
 use lib.Seq.{take-suc}
 use Rattle.model.specs.Lists.{anyOf, allOf, sumBy, sumTo, listTo}
-use Rattle.model.proofs.Bools.{and-split, and-join, or-split}
+use Rattle.exact.proofs.Bools.{and-split, and-join, or-split}
 
 module _ {A : Type 0} (f : A → ℕ) where
   pub sumBy-none : sumBy f [] ≡ 0

@@ -14,7 +14,7 @@ use Rattle.model.specs.Tower.{Tower, Wind}
 use Rattle.model.specs.Areas.{solid}
 use Rattle.model.specs.Report.{sectionAt, areasAt, forceAt, shearAt, momentAt, row, rowAt, rowsTo, rowsOf}
 use Rattle.model.specs.Valid.{ValidWind}
-use Rattle.model.proofs.Bools.{and-join}
+use Rattle.exact.proofs.Bools.{and-join}
 use Rattle.model.proofs.Lists.{all-append}
 use Rattle.model.proofs.Sections.{in-range, gross-bound}
 use Rattle.model.proofs.Forces.{section-at, solid-at, force-bound}

@@ -11,7 +11,7 @@ use Rattle.exact.specs.Number.{Exact, _⊞_, _⊙_, square, AtMost, AtLeast, So
 use Rattle.exact.proofs.Order.{≺-not-≽}
 use Rattle.exact.proofs.Arithmetic.{whole-proper}
 use Rattle.exact.proofs.Ceiling.{test-≼, at-least-test, test-at-least, within-large}
-use Rattle.model.proofs.Bools.{clash, and-split}
+use Rattle.exact.proofs.Bools.{clash, and-split}
 use Rattle.model.specs.Lists.{sumBy}
 use Rattle.model.specs.Areas.{groupArea, itemArea, gross, flowOf, areaIn, areasOf, solid}
 use Rattle.model.specs.Force.{m², solidity, C1, C2, c-f, c-c, c-p, K1, K2, quarters, halves, s, Kθ, coefficient, itemPart, itemSum, resistance, exact, exactForce}

@@ -13,7 +13,7 @@ use Rattle.model.specs.Answers.{refusalNumber}
 use Rattle.model.specs.Tower.{Tower, Wind}
 use Rattle.model.specs.Report.{sectionAt, shearAt, exceeds, IsOver}
 use Rattle.model.specs.Machine.{State, standing, checkRefusal, CheckSays, over, none-over, turned-down, writeRefusal, fileIn, WriteSays, written}
-use Rattle.model.proofs.Bools.{and-split}
+use Rattle.exact.proofs.Bools.{and-split}
 
 -- a section is over exactly if it is a section, states an allowance, and its reported shear is above that
 pub record Over (t : Tower) (w : Wind) (i : ℕ) : Type 0 where

@@ -18,7 +18,7 @@ use Rattle.model.specs.Areas.{sizeOf, groupArea, itemArea, gross, solidO
 use Rattle.model.specs.Force.{coefficient, itemPart}
 use Rattle.model.specs.File.{fieldsInRange}
 use Rattle.model.specs.Valid.{groupFits, sectionFits}
-use Rattle.model.proofs.Bools.{and-split}
+use Rattle.exact.proofs.Bools.{and-split}
 use Rattle.model.proofs.Bounds.{cond-bound}
 
 -- a number in its range

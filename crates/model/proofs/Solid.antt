@@ -15,7 +15,7 @@ use Rattle.model.specs.declared.Member.the-variants.{Round}
 use Rattle.model.specs.declared.Group.{Group}
 use Rattle.model.specs.Lists.{sumBy}
 use Rattle.model.specs.Areas.{sameFlow, groupArea, areaIn, areasOf, isSupercritical, flowOf, solid, solidOf}
-use Rattle.model.proofs.Bools.{and-split, and-rest}
+use Rattle.exact.proofs.Bools.{and-split, and-rest}
 
 shared : (class : Flow) (a : Area)
     → cond (sameFlow flow.Flat class) a (record { 0 = 0 }) .0
