@@ -4,13 +4,28 @@ use crate::tower::{ice_thickness, Group, Item, Legs, Member, Section, Tower, Win
 use crate::units::{Force, Length};
 
 /// Diameters with the pressure at which 2 q d² is 45 000 000 exactly.
-const FLOW_LIMITS: [(u32, u16); 6] = [
+pub const FLOW_LIMITS: [(u32, u16); 6] = [
     (75, 4_000),
     (100, 2_250),
     (150, 1_000),
     (250, 360),
     (300, 250),
     (500, 90),
+];
+
+/// Tenths of A_u, and mm² beside them: the ends of K2's ranges, and a full face.
+pub const EXACT_SOLIDITY: [(u32, i32); 11] = [
+    (2, -1),
+    (2, 0),
+    (2, 1),
+    (5, -1),
+    (5, 0),
+    (5, 1),
+    (8, -1),
+    (8, 0),
+    (8, 1),
+    (10, -1),
+    (10, 0),
 ];
 
 /// Marsaglia's xorshift.
@@ -114,11 +129,16 @@ pub fn section(random: &mut Random, ice_class: u32, most: u32) -> Section {
     }
 }
 
+/// The greatest whole pressure with 2 q d² at most 45 000 000.
+pub fn flow_limit(diameter: u32) -> u32 {
+    22_500_000 / (diameter * diameter)
+}
+
 /// A pressure; at times at the end of its range, at the flow limit of one of
 /// the section's groups or just above that.
 fn pressure(random: &mut Random, section: &Section) -> u16 {
     let size = random.pick(&section.groups).member.bare_width().0;
-    let limit = 22_500_000 / (size * size);
+    let limit = flow_limit(size);
     if limit < 5_000 && random.chance(50) {
         return (limit + random.within(0, 1)) as u16;
     }
@@ -134,6 +154,15 @@ pub fn direction(random: &mut Random, legs: Legs) -> u32 {
     match legs {
         Legs::Three => 2 * random.within(0, 11),
         Legs::Four => random.within(0, 23),
+    }
+}
+
+/// No ice, or any class of it.
+pub fn ice_class(random: &mut Random) -> u32 {
+    if random.chance(60) {
+        0
+    } else {
+        random.within(1, 5)
     }
 }
 

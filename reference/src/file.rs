@@ -145,11 +145,7 @@ fn read_item(fields: &mut Fields, sections: usize, earlier: &[Item]) -> Result<I
 
 /// The file of a tower whose fields are all within their bytes.
 pub fn write(tower: &Tower) -> Vec<u8> {
-    let legs = match tower.legs {
-        Legs::Three => 3,
-        Legs::Four => 4,
-    };
-    let mut file = vec![legs];
+    let mut file = vec![tower.legs.count()];
     put(&mut file, 1, tower.sections.len() as u64);
     for section in &tower.sections {
         write_section(&mut file, section);
@@ -176,11 +172,7 @@ fn write_section(file: &mut Vec<u8>, section: &Section) {
     put(file, 4, section.allowance.unwrap_or_default().0);
     put(file, 1, section.groups.len() as u64);
     for group in &section.groups {
-        let kind = match group.member {
-            Member::Flat(_) => 0,
-            Member::Round(_) => 1,
-        };
-        put(file, 1, kind);
+        put(file, 1, group.member.kind().into());
         put(file, 2, group.member.bare_width().0.into());
         put(file, 4, group.length.0.into());
     }

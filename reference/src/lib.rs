@@ -7,6 +7,7 @@
 //! least whole number of newtons that is not below the exact force.
 
 pub mod areas;
+pub mod cases;
 pub mod draw;
 pub mod expected;
 pub mod file;
@@ -14,10 +15,12 @@ pub mod force;
 pub mod host;
 pub mod natural;
 pub mod outputs;
+pub mod plain;
 pub mod rational;
 pub mod refusal;
 pub mod report;
 pub mod rules;
+pub mod sample;
 pub mod service;
 pub mod tower;
 pub mod units;

@@ -1,5 +1,7 @@
 //! The table of expected outputs, one entry per program crate.
 
+use crate::cases;
+
 /// One file of a program's folder.
 #[derive(Clone, Debug, PartialEq, Eq)]
 pub struct OutputFile {
@@ -18,5 +20,8 @@ pub struct Generator {
     pub files: fn() -> Vec<OutputFile>,
 }
 
-/// All programs with an expected output. There is none yet.
-pub const GENERATORS: &[Generator] = &[];
+/// All programs with an expected output.
+pub const GENERATORS: &[Generator] = &[Generator {
+    program: "force_cases",
+    files: cases::files,
+}];

@@ -43,6 +43,16 @@ pub enum Legs {
     Four,
 }
 
+impl Legs {
+    /// 3 or 4.
+    pub fn count(self) -> u8 {
+        match self {
+            Legs::Three => 3,
+            Legs::Four => 4,
+        }
+    }
+}
+
 /// One member's cross-section.
 #[derive(Clone, Copy, Debug, PartialEq, Eq)]
 pub enum Member {
@@ -58,6 +68,14 @@ impl Member {
         match self {
             Member::Flat(width) => width,
             Member::Round(diameter) => diameter,
+        }
+    }
+
+    /// The kind's number: 0 flat, 1 round.
+    pub fn kind(self) -> u8 {
+        match self {
+            Member::Flat(_) => 0,
+            Member::Round(_) => 1,
         }
     }
 }

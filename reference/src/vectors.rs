@@ -185,7 +185,7 @@ fn tower_cases() -> Vec<TowerCase> {
     let mut cases = Vec::new();
     for iced in [false, true] {
         for legs in [Legs::Three, Legs::Four] {
-            for (tenths, beside) in EXACT_SOLIDITY {
+            for (tenths, beside) in draw::EXACT_SOLIDITY {
                 cases.push(exact_case(&mut random, iced, legs, tenths, beside));
             }
         }
@@ -193,21 +193,6 @@ fn tower_cases() -> Vec<TowerCase> {
     cases.extend((0..132).map(|place| tower_case(&mut random, place)));
     cases
 }
-
-/// Tenths of A_u, and mm² beside them: the ends of K2's ranges, and a full face.
-const EXACT_SOLIDITY: [(u32, i32); 11] = [
-    (2, -1),
-    (2, 0),
-    (2, 1),
-    (5, -1),
-    (5, 0),
-    (5, 1),
-    (8, -1),
-    (8, 0),
-    (8, 1),
-    (10, -1),
-    (10, 0),
-];
 
 /// One section with this solidity ratio exactly, and a wind across a corner.
 fn exact_case(random: &mut Random, iced: bool, legs: Legs, tenths: u32, beside: i32) -> TowerCase {
@@ -232,11 +217,7 @@ fn tower_case(random: &mut Random, place: u32) -> TowerCase {
     } else {
         (Legs::Four, place / 2 % 24)
     };
-    let ice_class = if random.chance(60) {
-        0
-    } else {
-        random.within(1, 5)
-    };
+    let ice_class = draw::ice_class(random);
     let mut sections = Vec::new();
     for _ in 0..random.within(1, 3) {
         sections.push(if random.chance(20) {

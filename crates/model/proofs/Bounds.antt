@@ -14,10 +14,10 @@ use Rattle.model.specs.declared.Legs.{Legs}
 use Rattle.model.specs.declared.Legs.the-variants.{Three, Four}
 use Rattle.model.specs.declared.Areas.{Areas}
 use Rattle.model.specs.Areas.{solid}
-use Rattle.model.specs.Force.{halves, exact}
-use Rattle.model.specs.WholeForm.{k2Num, rounds, incidenceDen, incidenceNum, faceDen, flatNum, subcriticalNum, supercriticalNum, faceNum, wholeForm}
+use Rattle.model.specs.Force.{halves, largestItems, exact}
+use Rattle.model.specs.WholeForm.{grossOf, k2Num, rounds, incidenceDen, incidenceNum, faceDen, flatNum, subcriticalNum, supercriticalNum, faceNum, wholeForm}
 use Rattle.model.proofs.Coefficients.{quarters-bound}
-use Rattle.model.proofs.WholeForm.{grossOf, exact-whole}
+use Rattle.model.proofs.WholeForm.{exact-whole}
 use Rattle.model.proofs.ExactForce.{den-positive}
 
 pub cond-bound : (b : Bool) {x y n : ℕ} → x ≤ n → y ≤ n → cond b x y ≤ n
@@ -77,10 +77,6 @@ face-bound l a e =
     shares (flatNum l (solid a .0) e) (subcriticalNum l (solid a .0) e) (supercriticalNum l (solid a .0 + e)) _ _ _ _ (solid a .0)
     (flat-bound l (solid a .0) e) (sub-bound l (solid a .0) e) (super-bound l (solid a .0 + e)) (solid-is a)
 
--- the largest items' sum: 64 items of 3.1 m by 10 m, coefficient 3 and K 1
-abbrev pub largestItems : ℕ
-largestItems = 64 * (3000 * 1000 * 31_000_000)
-
 largest : (t turn f face S h items load : ℕ) → turn ≤ 2 * t → face ≤ 4 * f * S → h ≡ t * f → S ≤ 150_000_000 → items ≤ largestItems → load ≤ 10_000_000
     → load * (turn * face * 1_000_000 + items * h) ≤ 2 ^ 27 * (h * 1_000_000_000_000_000)
 largest t turn f face S h items load ht hf eh hS hi hl =
@@ -93,7 +89,7 @@ largest t turn f face S h items load ht hf eh hS hi hl =
     rw eh (omega arith)
 
 module _ (l : Legs) (k factor q : ℕ) (a : Areas) (e items : ℕ) where
-  num-bound : solid a .0 + e ≤ 150_000_000 → q ≤ 5000 → factor ≤ 2000 → items ≤ largestItems
+  pub num-bound : solid a .0 + e ≤ 150_000_000 → q ≤ 5000 → factor ≤ 2000 → items ≤ largestItems
       → wholeForm l k factor q a e items .num ≤ 2 ^ 27 * wholeForm l k factor q a e items .den
   unfolding wholeForm
   num-bound hu hq hf hi =

@@ -15,8 +15,8 @@ use Rattle.model.specs.declared.Legs.the-variants.{Three, Four}
 use Rattle.model.specs.declared.Areas.{Areas}
 use Rattle.model.specs.Areas.{solid}
 use Rattle.model.specs.Force.{m², solidity, C1, C2, c-f, c-c, c-p, K1, K2, s, Kθ, resistance, exact}
-use Rattle.model.specs.WholeForm.{incidenceDen, incidenceNum, faceDen, supercriticalNum, faceNum, rootNum, wholeForm}
-use Rattle.model.proofs.WholeForm.{grossOf, exact-whole}
+use Rattle.model.specs.WholeForm.{grossOf, incidenceDen, incidenceNum, faceDen, supercriticalNum, faceNum, rootNum, wholeForm}
+use Rattle.model.proofs.WholeForm.{exact-whole}
 
 -- no denominator is 0
 lit : (n d : ℕ) → Proper (n // suc d)

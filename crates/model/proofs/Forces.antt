@@ -17,16 +17,16 @@ use Rattle.model.specs.Lists.{allOf, anyOf}
 use Rattle.model.specs.Ranges.{within, sectionHeight, itemCount, iceClasses, structureFactor, pressures}
 use Rattle.model.specs.Tower.{Tower, Wind}
 use Rattle.model.specs.Areas.{thickness, gross, solid}
-use Rattle.model.specs.Force.{itemPart, itemSum, exact, exactForce}
+use Rattle.model.specs.Force.{itemPart, itemSum, largestItems, exact, exactForce}
+use Rattle.model.specs.WholeForm.{grossOf}
 use Rattle.model.specs.Report.{noSection, sectionAt, pressureAt, heightAt, areasAt, exactAt, forceAt}
 use Rattle.model.specs.Machine.{refuseIf, directionFits, isTooSolid, windRules}
 use Rattle.model.specs.Valid.{sectionFits, itemFits, ValidTower, ValidWind}
 use Rattle.exact.proofs.Bools.{and-split}
 use Rattle.model.proofs.Lists.{sumBy-bound, all-at, none-at}
 use Rattle.model.proofs.Solid.{solid-of}
-use Rattle.model.proofs.WholeForm.{grossOf}
 use Rattle.model.proofs.ExactForce.{exact-sound, exact-nonneg}
-use Rattle.model.proofs.Bounds.{cond-bound, largestItems, exact-bound}
+use Rattle.model.proofs.Bounds.{cond-bound, exact-bound}
 use Rattle.model.proofs.Sections.{InRange, in-range, SectionFacts, section-facts, gross-bound, solid-positive, item-bound}
 
 -- a call that no rule turns down meets none of their conditions
@@ -77,7 +77,7 @@ items-bound t w i v h =
     le-trans s (mul-le-mul-right b (n .high))
 
 -- the open area of a face
-opened : (a : Areas) (u : Area) → solid a .0 ≤ u .0 → grossOf a (u .0 - solid a .0) ≡ u
+pub opened : (a : Areas) (u : Area) → solid a .0 ≤ u .0 → grossOf a (u .0 - solid a .0) ≡ u
 opened a u h = let e : solid a .0 + (u .0 - solid a .0) ≡ u .0 = omega arith in ap (λ (n : ℕ). record { 0 = n }) e
 
 module _ (t : Tower) (w : Wind) (v : ValidWind t w) (i : ℕ) (h : i < length (t .sections)) where

@@ -1,12 +1,12 @@
 -- Sums over lists and over indices; tests over lists; nothing of it depends on the order.
 use Prim.Native.Nat.{ℕ, zero, suc, _+_, _*_, _≤_, _<_}
-use mathlib.Core.Path.{_≡_, refl, ap, _∙_}
-use mathlib.Core.Bool.{Bool, true, false}
-use mathlib.Core.List.{List, [], _∷_, _++_, List·Permᴰ, List·Permᴰ·nil, List·Permᴰ·cons, List·Permᴰ·swap, List·Permᴰ·trans, Forall₂, Forall₂·nil, Forall₂·cons}
+use mathlib.Core.Path.{_≡_, refl, ap, sym, _∙_}
+use mathlib.Core.Bool.{Bool, true, false, _&&_, and-true, and-false, and-assoc}
+use mathlib.Core.List.{List, [], _∷_, _++_, map, List·Permᴰ, List·Permᴰ·nil, List·Permᴰ·cons, List·Permᴰ·swap, List·Permᴰ·trans, Forall₂, Forall₂·nil, Forall₂·cons}
 use native.Mathlib.Numerals.{add-one}
 use native.Mathlib.Omega.{arith}
-use lib.ListN.{length, getD, take, length-append}
-use lib.Seq.{take-suc}
+use lib.ListN.{length, getD, take, length-append, length-map}
+use lib.Seq.{take-suc, getD-take, length-take-le}
 use Rattle.model.specs.Lists.{anyOf, allOf, sumBy, sumTo, listTo}
 use Rattle.exact.proofs.Bools.{and-split, and-join, or-split}
 
@@ -113,3 +113,30 @@ all-append p [] ys h g = g
 all-append p (x ∷ xs) ys h g =
     let k : _ = and-split (p x) (allOf p xs) h in
     and-join (k .0) (all-append p xs ys (k .1) g)
+
+-- arrays: the length, from what is known of a parameter
+pub length-mapped : (X Y : Type 0) (f : X → Y) (l : List X) (n : ℕ) → length (map f l) ≡ n → length l ≡ n
+length-mapped X Y f l n e = rw length-map at e
+
+module _ {A : Type 0} (p : A → Bool) where
+  -- a test that holds of the first n holds of each of them
+  pub taken-at : (l : List A) (n i : ℕ) (d : A) → i < n → n ≤ length l → allOf p (take n l) ≡ true → p (getD l i d) ≡ true
+  taken-at l n i d h g t =
+      let k : i < length (take n l) = omega (arith, length-take-le n l g) in
+      let e : p (getD (take n l) i d) ≡ true = all-at p (take n l) i d k t in
+      rw (getD-take) at e
+
+  all-of-append : (xs ys : List A) → allOf p (xs ++ ys) ≡ (allOf p xs && allOf p ys)
+  all-of-append [] ys = refl
+  all-of-append (x ∷ xs) ys = rw (all-of-append xs ys) (sym (and-assoc (p x) (allOf p xs) (allOf p ys)))
+
+  -- one turn of a loop over an array
+  pub all-more : (l : List A) (i : ℕ) (d : A) → i < length l → allOf p (take (i + 1) l) ≡ (allOf p (take i l) && p (getD l i d))
+  all-more l i d h = rw (add-one, take-suc l i d h, all-of-append, and-true)
+
+  -- one that fails of one of the first n fails of them together
+  pub all-fails : (l : List A) (n i : ℕ) (d : A) → i < n → n ≤ length l → p (getD l i d) ≡ false → allOf p (take n l) ≡ false
+  all-fails [] n i d h g f = absurd (omega arith)
+  all-fails (x ∷ xs) zero i d h g f = absurd (omega arith)
+  all-fails (x ∷ xs) (suc n) zero d h g f = rw f
+  all-fails (x ∷ xs) (suc n) (suc i) d h g f = rw (all-fails xs n i d (omega arith) (omega arith) f) (and-false (p x))

@@ -12,7 +12,7 @@ use Rattle.model.specs.declared.Legs.the-variants.{Three, Four}
 use Rattle.model.specs.declared.Areas.{Areas}
 use Rattle.model.specs.Areas.{solid}
 use Rattle.model.specs.Force.{m², solidity, c-f, c-c, c-p, resistance, exact}
-use Rattle.model.specs.WholeForm.{incidenceDen, incidenceNum, faceDen, faceNum, rootNum, wholeForm}
+use Rattle.model.specs.WholeForm.{grossOf, incidenceDen, incidenceNum, faceDen, faceNum, rootNum, wholeForm}
 use Rattle.model.proofs.Coefficients.{flat-is, sub-is, super-is, root-is, incidence-is, openNum, rootDen}
 
 load-is : (q factor : ℕ) → Is (whole q · factor // 1000) (q * factor) 1000
@@ -51,10 +51,6 @@ den-eq : (h L U n c : ℕ) → L * L ≡ c * (U * U) * n
     → 1000 * h * 1_000_000 * (1000 * h * 1_000_000) * n * (c * (U * U) * 1_000_000_000_000)
     ≡ h * L * 1_000_000_000_000_000 * (h * L * 1_000_000_000_000_000)
 den-eq h L U n c g = let k : _ = ap (λ (z : ℕ). z * (h * h)) g in omega arith
-
--- A_u is A_S and the open area
-abbrev pub grossOf : Areas → ℕ → Area
-grossOf a e = record { 0 = solid a .0 + e }
 
 module _ (l : Legs) (k factor q : ℕ) (a : Areas) (e items : ℕ) where
   φ : Fraction

@@ -3,12 +3,17 @@
 use Prim.Native.Nat.{ℕ, _+_, _*_, _-_}
 use mathlib.Core.Bool.{cond}
 use lib.Dec.{leb}
+use Rattle.units.specs.declared.Area.{Area}
 use Rattle.exact.specs.Surd.{Surd}
 use Rattle.model.specs.declared.Legs.{Legs}
 use Rattle.model.specs.declared.Legs.the-variants.{Three, Four}
 use Rattle.model.specs.declared.Areas.{Areas}
 use Rattle.model.specs.Areas.{solid}
 use Rattle.model.specs.Force.{quarters, halves}
+
+-- A_u
+abbrev pub grossOf : Areas → ℕ → Area
+grossOf a e = record { 0 = solid a .0 + e }
 
 -- 5 U K2
 unfoldable pub k2Num : ℕ → ℕ → ℕ

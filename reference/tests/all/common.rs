@@ -5,69 +5,11 @@ use reference::file;
 use reference::rational::Rational;
 use reference::refusal::Refusal;
 use reference::service::Service;
-use reference::tower::{Group, Item, Legs, Member, Section, Tower, Wind};
-use reference::units::{Force, Length};
+use reference::tower::{Legs, Section, Tower, Wind};
+use reference::units::Force;
 use std::process::Command;
 
-pub fn flat(width: u32, length: u32) -> Group {
-    Group {
-        member: Member::Flat(Length(width)),
-        length: Length(length),
-    }
-}
-
-pub fn round(diameter: u32, length: u32) -> Group {
-    Group {
-        member: Member::Round(Length(diameter)),
-        length: Length(length),
-    }
-}
-
-pub fn section(width: u32, height: u32, groups: &[Group]) -> Section {
-    Section {
-        width: Length(width),
-        height: Length(height),
-        allowance: None,
-        groups: groups.to_vec(),
-    }
-}
-
-/// A tower without items.
-pub fn tower(legs: Legs, sections: &[Section]) -> Tower {
-    Tower {
-        legs,
-        sections: sections.to_vec(),
-        items: Vec::new(),
-    }
-}
-
-/// One section of 2 000 by 6 000, as in most samples.
-pub fn sample(legs: Legs, groups: &[Group]) -> Tower {
-    tower(legs, &[section(2_000, 6_000, groups)])
-}
-
-/// Wind with structure factor 1 000 and q = 1 000 on every section.
-pub fn sample_wind(tower: &Tower, direction: u32, ice_class: u32) -> Wind {
-    Wind {
-        direction,
-        ice_class,
-        structure_factor: 1_000,
-        pressures: vec![1_000; tower.sections.len()],
-    }
-}
-
-/// The item of the samples, under this number.
-pub fn item(number: u16) -> Item {
-    Item {
-        number,
-        section: 0,
-        width: Length(300),
-        length: Length(2_000),
-        bare: 1_200,
-        iced: 1_200,
-        position: 800,
-    }
-}
+pub use reference::sample::{flat, item, round, sample, sample_wind, section, tower};
 
 pub fn erected(tower: &Tower) -> Service {
     let mut service = Service::fresh();
@@ -104,6 +46,15 @@ pub fn decimal(text: &str) -> Rational {
     let (whole, decimals) = text.split_once('.').unwrap_or((text, ""));
     let digits = format!("{whole}{decimals}").parse().expect("digits");
     Rational::fraction(digits, 10_u64.pow(decimals.len() as u32))
+}
+
+/// Tenths of A_u that A_S is beside, and the distance in mm², if it is at most 1.
+pub fn beside_tenths(solid: u64, gross: u64) -> Vec<(u64, i64)> {
+    let tenths = [2, 5, 8, 10].into_iter();
+    let near = tenths.filter(|tenths| (gross * tenths).is_multiple_of(10));
+    near.map(|tenths| (tenths, solid as i64 - (gross * tenths / 10) as i64))
+        .filter(|(_, distance)| distance.abs() <= 1)
+        .collect()
 }
 
 /// An acceptable section; its solidity ratio goes from near 0 to near 1.
@@ -154,11 +105,7 @@ pub fn random_wind(random: &mut Random, tower: &Tower) -> Wind {
     let pressures = tower.sections.iter();
     Wind {
         direction: draw::direction(random, tower.legs),
-        ice_class: if random.chance(60) {
-            0
-        } else {
-            random.within(1, 5)
-        },
+        ice_class: draw::ice_class(random),
         structure_factor: random.within(500, 2_000),
         pressures: pressures.map(|_| random.within(0, 5_000) as u16).collect(),
     }

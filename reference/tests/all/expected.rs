@@ -2,7 +2,7 @@
 
 use crate::common::run_program;
 use reference::expected::{parse, run, Command, USAGE};
-use reference::outputs::{Generator, OutputFile};
+use reference::outputs::{Generator, OutputFile, GENERATORS};
 use std::fs;
 use std::path::{Path, PathBuf};
 use std::process;
@@ -194,4 +194,18 @@ fn the_program_answers_with_its_status() {
         assert_eq!(status, Some(1));
         assert!(stderr.contains("crates/uncovered: a program without"));
     }
+}
+
+#[test]
+fn the_program_writes_and_compares_its_own_table() {
+    let programs: Vec<&str> = GENERATORS.iter().map(|entry| entry.program).collect();
+    let folder = Folder::with_programs("own", &programs);
+    let root = format!("--root {}", folder.0.display());
+    let (status, _, stderr) = expected(&format!("--check {root}"));
+    assert_eq!(status, Some(1));
+    for program in &programs {
+        assert!(stderr.contains(&format!("crates/{program}/stdout: missing")));
+    }
+    assert_eq!(expected(&root).0, Some(0));
+    assert_eq!(expected(&format!("--check {root}")).0, Some(0));
 }

@@ -1,11 +1,9 @@
 //! The formula beyond the samples, and the faults that readers make.
 
 use crate::common::{
-    decimal, erected, flat, item, random_service, round, rows, sample, sample_wind, set_wind,
-    under_wind,
+    decimal, erected, flat, item, round, rows, sample, sample_wind, set_wind, under_wind,
 };
 use reference::areas::{areas, item_area};
-use reference::draw::Random;
 use reference::force::{exact_force, solidity_share};
 use reference::tower::{Legs, Tower, Wind};
 use reference::units::Length;
@@ -138,75 +136,4 @@ fn thousands_of_bookings_leave_no_drift() {
         assert_eq!(service.take_down(number), Ok(()));
     }
     assert_eq!(rows(&service), first);
-}
-
-/// Document 01's formula in floating point, as a second opinion.
-fn approximate(tower: &Tower, wind: &Wind, number: usize) -> f64 {
-    let part = &tower.sections[number];
-    let q = wind.pressures[number];
-    let all = areas(part, wind.ice_thickness(), q);
-    let (af, ac, ap) = (
-        all.flat.0 as f64 / 1e6,
-        all.subcritical.0 as f64 / 1e6,
-        all.supercritical.0 as f64 / 1e6,
-    );
-    let solid = af + ac + ap;
-    let phi = 1e6 * solid / (f64::from(part.width.0) * f64::from(part.height.0));
-    let (c1, c2) = match tower.legs {
-        Legs::Four => (2.25, 1.5),
-        Legs::Three => (1.9, 1.4),
-    };
-    let cf = 1.76 * c1 * (1.0 - c2 * phi + phi * phi);
-    let cc = c1 * (1.0 - c2 * phi) + (c1 + 0.875) * phi * phi;
-    let cp = 1.9 - ((1.0 - phi).max(0.0) * (2.8 - 1.14 * c1 + phi)).sqrt();
-    let turn = approximate_turn(
-        tower.legs,
-        wind.direction,
-        phi,
-        (af / solid, (ac + ap) / solid),
-    );
-    let mut bracket = turn * (cf * af + cc * ac + cp * ap);
-    for item in tower
-        .items
-        .iter()
-        .filter(|item| usize::from(item.section) == number)
-    {
-        let t = f64::from(wind.ice_class) * 10.0;
-        let coefficient = if t > 0.0 { item.iced } else { item.bare };
-        let area = (f64::from(item.width.0) + 2.0 * t) * f64::from(item.length.0) / 1e6;
-        bracket += f64::from(coefficient) * f64::from(item.position) / 1e6 * area;
-    }
-    f64::from(q) * f64::from(wind.structure_factor) / 1e3 * bracket
-}
-
-fn approximate_turn(legs: Legs, k: u32, phi: f64, (flat, round): (f64, f64)) -> f64 {
-    match legs {
-        Legs::Four => {
-            // (1 - cos 4θ)/2 has the values of the table.
-            let s = (1.0 - (f64::from(k) * 60.0).to_radians().cos()) / 2.0;
-            1.0 + (0.55 * flat + 0.8 * round) * phi.min(1.0 - phi).max(0.2) * s
-        }
-        Legs::Three => {
-            let s = (1.0 - (f64::from(k) * 45.0).to_radians().cos()) / 2.0;
-            round + flat * (1.0 - 0.1 * s)
-        }
-    }
-}
-
-#[test]
-fn forces_agree_with_floating_point() {
-    let mut random = Random(0x5eed_0001);
-    for _ in 0..2_000 {
-        let service = random_service(&mut random, 2);
-        let tower = service.tower().expect("a tower");
-        let wind = service.current_wind().expect("a wind");
-        let numbers = rows(&service);
-        for section in 0..tower.sections.len() {
-            let near = approximate(tower, wind, section);
-            let force = numbers[6 * section + 3] as f64;
-            let slack = 1e-6 * (1.0 + near);
-            let fits = near - slack <= force && force < near + 1.0 + slack;
-            assert!(fits, "{force} for {near}: {tower:?} {wind:?}");
-        }
-    }
 }

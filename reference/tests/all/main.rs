@@ -3,6 +3,7 @@
 mod arithmetic;
 mod call_lists;
 mod call_refusals;
+mod cases;
 mod common;
 mod expected;
 mod file_refusals;
@@ -10,5 +11,6 @@ mod files;
 mod formula;
 mod host;
 mod least_force;
+mod plain;
 mod samples;
 mod vectors;

@@ -1,21 +1,16 @@
 //! The cases for the definitions.
 
-use crate::common::run_program;
+use crate::common::{beside_tenths, run_program};
 use reference::areas::{areas, gross_face_area};
 use reference::tower::Legs;
 use reference::vectors::{Call, TowerCase, Vectors, USAGE};
 use std::collections::BTreeSet;
 
-/// Tenths of A_u that A_S is beside, and the distance in mm², if it is at most 1.
-fn beside_tenths(case: &TowerCase, section: usize) -> Vec<(u64, i64)> {
+/// The tenths that a section's solidity ratio is at or beside.
+fn ratios(case: &TowerCase, section: usize) -> Vec<(u64, i64)> {
     let row = &case.rows[6 * section..];
-    let solid = row[0] + row[1] + row[2];
     let gross = gross_face_area(&case.tower.sections[section]).0;
-    let tenths = [2, 5, 8, 10].into_iter();
-    let near = tenths.filter(|tenths| (gross * tenths).is_multiple_of(10));
-    near.map(|tenths| (tenths, solid as i64 - (gross * tenths / 10) as i64))
-        .filter(|(_, distance)| distance.abs() <= 1)
-        .collect()
+    beside_tenths(row[0] + row[1] + row[2], gross)
 }
 
 #[test]
@@ -66,7 +61,7 @@ fn the_solidity_ratios_reach_the_limits_and_the_full_face() {
                 .filter(|case| case.tower.legs == legs && (case.wind.ice_class > 0) == iced)
                 .flat_map(|case| {
                     let sections = 0..case.tower.sections.len();
-                    sections.flat_map(|section| beside_tenths(case, section))
+                    sections.flat_map(|section| ratios(case, section))
                 })
                 .collect();
             for tenths in [2, 5, 8, 10] {

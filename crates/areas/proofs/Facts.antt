@@ -1,0 +1,68 @@
+-- What is known of a group and of an item within document 01's ranges.
+use Prim.Native.Nat.{_+_, _*_, _≤_}
+use mathlib.Core.Path.{_≡_}
+use mathlib.Core.Bool.{true}
+use native.Mathlib.Nat.{mul-le-mul}
+use native.Mathlib.Omega.{arith}
+use Rattle.units.specs.declared.Length.{Length}
+use Rattle.model.specs.declared.Member.the-variants.{Flat}
+use Rattle.model.specs.declared.Group.{Group}
+use Rattle.model.specs.declared.Item.{Item}
+use Rattle.model.specs.Ranges.{within, memberSize, memberLength, itemWidth, itemLength, coefficients, positionFactor}
+use Rattle.model.specs.Areas.{sizeOf, groupArea}
+use Rattle.model.specs.File.{fieldsInRange}
+use Rattle.model.specs.Valid.{groupFits}
+use Rattle.exact.proofs.Bools.{and-split}
+use Rattle.model.proofs.Sections.{InRange, in-range}
+
+-- what stands past an array's end
+abbrev pub noGroup : Group
+noGroup = record { member = Flat (record { 0 = 0 }); length = record { 0 = 0 } }
+
+abbrev pub noItem : Item
+noItem =
+    record {
+      number = 0;
+      section = 0;
+      width = record { 0 = 0 };
+      length = record { 0 = 0 };
+      bare = 0;
+      iced = 0;
+      position = 0;
+    }
+
+pub record GroupFacts (g : Group) : Type 0 where
+  pub size : InRange memberSize (sizeOf (g .member) .0)
+  pub length : InRange memberLength (g .length .0)
+
+pub group-facts : (g : Group) → groupFits g ≡ true → GroupFacts g
+group-facts g h =
+    let k : _ = and-split (within memberSize (sizeOf (g .member) .0)) (within memberLength (g .length .0)) h in
+    record { size = in-range _ _ (k .0); length = in-range _ _ (k .1) }
+
+-- 1.1 m by 200 m
+pub group-bound : (t : Length) (g : Group) → t .0 ≤ 50 → GroupFacts g → groupArea t g .0 ≤ 220_000_000
+unfolding groupArea
+group-bound t g h f =
+    mul-le-mul {n₁ = sizeOf (g .member) .0 + 2 * t .0} {m₁ = g .length .0} {n₂ = 1100} {m₂ = 200_000} (omega arith) (omega arith)
+
+pub record ItemFacts (it : Item) : Type 0 where
+  pub width : InRange itemWidth (it .width .0)
+  pub length : InRange itemLength (it .length .0)
+  pub bare : InRange coefficients (it .bare)
+  pub iced : InRange coefficients (it .iced)
+  pub position : InRange positionFactor (it .position)
+
+pub item-facts : (it : Item) → fieldsInRange it ≡ true → ItemFacts it
+item-facts it h =
+    let a : _ = and-split _ (within positionFactor (it .position)) h in
+    let b : _ = and-split _ (within coefficients (it .iced)) (a .0) in
+    let c : _ = and-split _ (within coefficients (it .bare)) (b .0) in
+    let d : _ = and-split (within itemWidth (it .width .0)) (within itemLength (it .length .0)) (c .0) in
+    record {
+      width = in-range _ _ (d .0);
+      length = in-range _ _ (d .1);
+      bare = in-range _ _ (c .1);
+      iced = in-range _ _ (b .1);
+      position = in-range _ _ (a .1);
+    }

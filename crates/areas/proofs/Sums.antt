@@ -1,0 +1,77 @@
+-- A_f, A_c and A_p, group by group; the items' sum, item by item.
+use Prim.Native.Nat.{ℕ, _+_, _≤_, _<_}
+use mathlib.Core.Path.{_≡_, refl, ap}
+use mathlib.Core.Bool.{Bool, true, false, cond}
+use mathlib.Core.List.{List, []}
+use native.Mathlib.Omega.{arith}
+use lib.Dec.{eqb}
+use lib.ListN.{length, getD, take}
+use Rattle.units.specs.declared.Length.{Length}
+use Rattle.units.specs.declared.Area.{Area}
+use Rattle.model.specs.declared.Areas.{Areas}
+use Rattle.model.specs.declared.Flow.{Flow}
+use Rattle.model.specs.declared.Flow.the-variants as flow
+use Rattle.model.specs.declared.Group.{Group}
+use Rattle.model.specs.declared.Item.{Item}
+use Rattle.model.specs.Lists.{sumBy}
+use Rattle.model.specs.Areas.{sameFlow, flowOf, groupArea, areaIn, areasOf}
+use Rattle.model.specs.Force.{itemPart, itemSum}
+use Rattle.model.proofs.Lists.{sumBy-none, sumBy-more}
+use Rattle.areas.specs.Sums.{Added}
+use Rattle.areas.proofs.Facts.{GroupFacts, group-bound}
+
+abbrev areas : ℕ → ℕ → ℕ → Areas
+areas x y z = record { flat = record { 0 = x }; subcritical = record { 0 = y }; supercritical = record { 0 = z } }
+
+pub areas-eq : (a b : Areas) → a .flat .0 ≡ b .flat .0 → a .subcritical .0 ≡ b .subcritical .0 → a .supercritical .0 ≡ b .supercritical .0 → a ≡ b
+areas-eq a b p q r =
+    let h : areas (a .flat .0) (a .subcritical .0) (a .supercritical .0) ≡ areas (b .flat .0) (b .subcritical .0) (b .supercritical .0) = cc in
+    h
+
+share-bound : (b : Bool) (a : Area) (n : ℕ) → a .0 ≤ n → cond b a (record { 0 = 0 }) .0 ≤ n
+share-bound true a n h = h
+share-bound false a n h = omega arith
+
+pub area-in-bound : (class : Flow) (t : Length) (q : ℕ) (g : Group) → t .0 ≤ 50 → GroupFacts g → areaIn class t q g .0 ≤ 220_000_000
+unfolding areaIn
+area-in-bound class t q g h f = share-bound (sameFlow class (flowOf t q (g .member))) (groupArea t g) _ (group-bound t g h f)
+
+pub areas-none : (t : Length) (q : ℕ) → areas 0 0 0 ≡ areasOf t q []
+unfolding areasOf sumBy
+areas-none t q = refl
+
+-- one turn of the loop over the groups
+pub areas-more : (t : Length) (q : ℕ) (l : List Group) (i : ℕ) (d : Group) → i < length l → (a r : Areas)
+    → a ≡ areasOf t q (take i l) → Added t q (getD l i d) a r → r ≡ areasOf t q (take (i + 1) l)
+unfolding areasOf
+areas-more t q l i d h a r e s =
+    let f : _ = sumBy-more (λ g. areaIn flow.Flat t q g .0) l i d h in
+    let c : _ = sumBy-more (λ g. areaIn flow.Subcritical t q g .0) l i d h in
+    let p : _ = sumBy-more (λ g. areaIn flow.Supercritical t q g .0) l i d h in
+    areas-eq r _
+    (omega (arith, ap (λ (x : Areas). x .flat .0) e))
+    (omega (arith, ap (λ (x : Areas). x .subcritical .0) e))
+    (omega (arith, ap (λ (x : Areas). x .supercritical .0) e))
+
+-- the group's area goes to the sum of its class alone
+pub added : (class : Flow) (t : Length) (q : ℕ) (g : Group) (x : Area) (a r : Areas) → flowOf t q (g .member) ≡ class → x ≡ groupArea t g
+    → (r .flat .0 ≡ a .flat .0 + cond (sameFlow flow.Flat class) x (record { 0 = 0 }) .0)
+    × (r .subcritical .0 ≡ a .subcritical .0 + cond (sameFlow flow.Subcritical class) x (record { 0 = 0 }) .0)
+    × (r .supercritical .0 ≡ a .supercritical .0 + cond (sameFlow flow.Supercritical class) x (record { 0 = 0 }) .0)
+    → Added t q g a r
+unfolding areaIn
+added class t q g x a r h e s =
+    record {
+      flat = rw (h, ← e) (s .0);
+      subcritical = rw (h, ← e) (s .1);
+      supercritical = rw (h, ← e) (s .2);
+    }
+
+pub items-none : (t : Length) (section : ℕ) → itemSum t section [] ≡ 0
+unfolding itemSum
+items-none t section = sumBy-none _
+
+pub items-more : (t : Length) (section : ℕ) (l : List Item) (i : ℕ) (d : Item) → i < length l
+    → itemSum t section (take (i + 1) l) ≡ itemSum t section (take i l) + cond (eqb (getD l i d .section) section) (itemPart t (getD l i d)) 0
+unfolding itemSum
+items-more t section l i d h = sumBy-more (λ it. cond (eqb (it .section) section) (itemPart t it) 0) l i d h

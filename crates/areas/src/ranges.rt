@@ -1,0 +1,139 @@
+// Whether groups, items and sections are within document 01's ranges.
+use super::section::gross_area;
+use super::section::section_areas;
+use super::section::solid_area;
+use model::Group;
+use model::Item;
+use model::Member;
+use model::Section;
+use units::Area;
+use units::Length;
+ghost use mathlib.Core.Path.{_≡_};
+ghost use mathlib.Core.Bool.{true, _&&_};
+ghost use Prim.Native.Nat.{_≤_};
+ghost use lib.Dec.{leb};
+ghost use lib.ListN.{take};
+ghost use Rattle.model.specs.Lists.{allOf};
+ghost use Rattle.model.specs.Ranges as ranges;
+ghost use Rattle.model.specs.Areas.{sizeOf, solidOf};
+ghost use Rattle.model.specs.File.{fieldsInRange};
+ghost use Rattle.model.specs.Valid.{groupFits};
+ghost use Rattle.areas.specs.Fits.{sizesFit, fitsUnder};
+
+fn within(low: u32, high: u32, x: u32) -> bool
+    ensures { λ r. ⌜ r ≡ leb low x && leb x high ⌝ }
+{
+    low <= x && x <= high
+}
+
+fn member_fits(m: Member) -> bool
+    ensures { λ r. ⌜ r ≡ ranges.within ranges.memberSize (sizeOf m .0) ⌝ }
+{
+    match m {
+        Member::Flat(w) => within(1, 1000, w.0),
+        Member::Round(d) => within(1, 1000, d.0),
+    }
+}
+
+pub fn group_fits(g: Group) -> bool
+    ensures { λ r. ⌜ r ≡ groupFits g ⌝ }
+{
+    let m = g.member;
+    member_fits(m) && within(1, 200_000, g.length.0)
+}
+
+pub fn item_fits(it: Item) -> bool
+    ensures { λ r. ⌜ r ≡ fieldsInRange it ⌝ }
+{
+    if !within(1, 3000, it.width.0) {
+        return false;
+    }
+    if !within(1, 10_000, it.length.0) {
+        return false;
+    }
+    if !within(0, 3000, it.bare as u32) {
+        return false;
+    }
+    if !within(0, 3000, it.iced as u32) {
+        return false;
+    }
+    within(0, 1000, it.position as u32)
+}
+
+pub fn items_fit(items: [Item; 64], held: usize) -> bool
+    ensures { λ r. ⌜ r ≡ leb held 64 && allOf fieldsInRange (take held items) ⌝ }
+{
+    if 64 < held {
+        return false;
+    }
+    for i in 0usize..held {
+        let it = items[i];
+        if !item_fits(it) {
+            return false;
+        }
+    }
+    true
+}
+
+fn groups_fit(s: Section) -> bool
+    requires { ⌜ s .count ≤ 8 ⌝ }
+    ensures { λ r. ⌜ r ≡ allOf groupFits (take (s .count) (s .groups)) ⌝ }
+{
+    let n = s.count;
+    for i in 0usize..n {
+        let g = s.groups[i];
+        if !group_fits(g) {
+            return false;
+        }
+    }
+    true
+}
+
+// Width, height, allowance and the number of groups.
+fn sizes_fit(s: Section) -> bool
+    ensures { λ r. ⌜ r ≡ sizesFit s ⌝ }
+{
+    if !within(100, 15_000, s.width.0) {
+        return false;
+    }
+    if !within(100, 10_000, s.height.0) {
+        return false;
+    }
+    if s.height.0 % 2 != 0 {
+        return false;
+    }
+    if 4_294_967_296 <= s.allowance.0 {
+        return false;
+    }
+    1 <= s.count && s.count <= 8
+}
+
+// A_S under ice of thickness t.
+fn solid_under(t: Length, s: Section) -> Area
+    requires { ⌜ (t .0 ≤ 50) × (s .count ≤ 8) × (allOf groupFits (take (s .count) (s .groups)) ≡ true) ⌝ }
+    ensures { λ r. ⌜ r ≡ solidOf t (take (s .count) (s .groups)) ⌝ }
+{
+    solid_area(section_areas(t, 0, s))
+}
+
+// A section that stands bare and under ice of thickness t: A_S is at most A_u both times.
+pub fn section_fits(t: Length, s: Section) -> bool
+    ensures { λ r. ⌜ r ≡ fitsUnder t s ⌝ }
+{
+    if 50 < t.0 {
+        return false;
+    }
+    if !sizes_fit(s) {
+        return false;
+    }
+    if !groups_fit(s) {
+        return false;
+    }
+    let gross = gross_area(s);
+    let bare = solid_under(Length(0), s);
+    if gross.0 < bare.0 {
+        return false;
+    }
+    let iced = solid_under(t, s);
+    iced.0 <= gross.0
+}

@@ -1,0 +1,60 @@
+// The items that hang on a tower: (SECTION WIDTH LENGTH BARE ICED POSITION)*.
+use super::words::to_u8;
+use super::words::to_u32;
+use super::words::word;
+use super::words::word16;
+use super::words::word32;
+use model::Item;
+use units::Length;
+ghost use mathlib.Core.Path.{_≡_};
+ghost use Prim.Native.Nat.{_≤_, _<_};
+ghost use Rattle.model.specs.Lists.{listTo};
+ghost use Rattle.case_words.specs.Words.{itemOf, itemFrom, widthOn};
+
+// An item on a section that no tower has gets width 0, which no item may have.
+fn width_on(section: u64, width: u64) -> Length
+    ensures { λ r. ⌜ r ≡ widthOn section width ⌝ }
+{
+    if section < 32 {
+        Length(to_u32(width))
+    } else {
+        Length(0)
+    }
+}
+
+fn item_at(numbers: &[u64], place: usize) -> Item
+    requires { ⌜ place < 1000 ⌝ }
+    ensures { λ r. ⌜ r ≡ itemOf (now (numbers .entry)) place ⌝ }
+{
+    let section = word(numbers, place);
+    let width = word(numbers, place + 1);
+    Item {
+        number: 0,
+        section: to_u8(section),
+        width: width_on(section, width),
+        length: Length(word32(numbers, place + 2)),
+        bare: word16(numbers, place + 3),
+        iced: word16(numbers, place + 4),
+        position: word16(numbers, place + 5),
+    }
+}
+
+// All 64 from `place` on, however many count.
+pub fn items_of(numbers: &[u64], place: usize) -> [Item; 64]
+    requires { ⌜ place ≤ 100 ⌝ }
+    ensures { λ r. ⌜ r ≡ listTo (itemFrom (now (numbers .entry)) place) 64 ⌝ }
+{
+    let mut items = [Item {
+        number: 0,
+        section: 0,
+        width: Length(0),
+        length: Length(0),
+        bare: 0,
+        iced: 0,
+        position: 0,
+    }; 64];
+    for i in 0usize..64 {
+        items[i] = item_at(numbers, place + 6 * i);
+    }
+    items
+}

@@ -1,0 +1,5 @@
+pub mod IncidenceFactor
+pub mod Coefficients
+pub mod Quotient
+pub mod Loads
+pub mod Reported

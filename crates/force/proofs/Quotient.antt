@@ -1,0 +1,103 @@
+-- The exact force as (n − √m) / d of wide numbers.
+use mathlib.Core.Path.{_≡_, refl}
+use Prim.Native.Nat.{ℕ, _+_, _*_, _^_, _≤_, _<_}
+use mathlib.Core.Bool.{true}
+use native.Mathlib.Omega.{arith}
+use native.Mathlib.Nat.{mul-le-mul, mul-le-mul-left, le-trans, lt-of-le-of-lt}
+use borrow.Author.Tests.{leb-true}
+use Rattle.exact.specs.Number.{Least}
+use Rattle.exact.specs.Surd.{number, reaches}
+use Rattle.exact.proofs.Compare.{same-sym, least-same}
+use Rattle.exact.proofs.Surds.{number-sound}
+use Rattle.model.specs.declared.Legs.{Legs}
+use Rattle.model.specs.declared.Legs.the-variants.{Three, Four}
+use Rattle.model.specs.declared.Areas.{Areas}
+use Rattle.model.specs.Areas.{solid}
+use Rattle.model.specs.Force.{largestItems, exact}
+use Rattle.model.specs.WholeForm.{grossOf, incidenceDen, incidenceNum, faceDen, faceNum, rootNum, wholeForm}
+use Rattle.model.proofs.WholeForm.{exact-whole}
+use Rattle.model.proofs.ExactForce.{den-positive, exact-sound}
+use Rattle.model.proofs.Bounds.{num-bound}
+use Rattle.wide.specs.declared.U256.{U256}
+use Rattle.wide.specs.declared.U512.{U512}
+use Rattle.wide.specs.Value.{value256, value512}
+use Rattle.wide.specs.Reaching.{surd}
+use Rattle.wide.proofs.Reach.{whole-reaches}
+
+-- the numerator and the radicand, from the products that code forms
+pub num-sum : (load inc face items h x y : ℕ) → x ≡ face * inc * (load * 1_000_000) → y ≡ h * items * load
+    → x + y ≡ load * (inc * face * 1_000_000 + items * h)
+num-sum load inc face items h x y ex ey = rw (ex, ey) (omega arith)
+
+pub radicand-is : (load inc p u o l r x y : ℕ) → r ≡ load * 1_000_000 * (p * u) * inc → x ≡ r * o → y ≡ r * l
+    → x * y ≡ load * inc * 1_000_000 * p * u * (load * inc * 1_000_000 * p * u) * (o * l)
+radicand-is load inc p u o l r x y er ex ey =
+    let e : r ≡ load * inc * 1_000_000 * p * u = omega (arith, er) in
+    rw (ex, ey, ← e) (omega arith)
+
+-- no supercritical member: there is no root
+pub no-radicand : (x p u root : ℕ) → p ≡ 0 → _≡_ {A = ℕ} 0 (x * p * u * (x * p * u) * root)
+no-radicand x p u root e = rw e (omega arith)
+
+-- bounds of the divisors
+square-bound : (x y : ℕ) → x ≤ 150_000_000 → y ≤ 150_000_000 → x * y ≤ 150_000_000 * 150_000_000
+square-bound x y hx hy = mul-le-mul {n₂ = 150_000_000} {m₂ = 150_000_000} hx hy
+
+incidence-den-bound : (l : Legs) (S e : ℕ) → S + e ≤ 150_000_000 → incidenceDen l S e ≤ 2 ^ 63
+unfolding incidenceDen
+incidence-den-bound Four S e h = omega (arith, square-bound S (S + e) (omega arith) h)
+incidence-den-bound Three S e h = omega arith
+
+face-den-bound : (l : Legs) (U : ℕ) → U ≤ 150_000_000 → faceDen l U ≤ 2 ^ 67
+unfolding faceDen
+face-den-bound Four U h = omega (arith, square-bound U U h h)
+face-den-bound Three U h = omega (arith, square-bound U U h h)
+
+module _ (l : Legs) (k factor q : ℕ) (a : Areas) (e items : ℕ) where
+  pub num-is : (load inc face h : ℕ) → load ≡ q * factor → inc ≡ incidenceNum l k a e → face ≡ faceNum l a e
+      → h ≡ incidenceDen l (solid a .0) e * faceDen l (solid a .0 + e)
+      → load * (inc * face * 1_000_000 + items * h) ≡ wholeForm l k factor q a e items .num
+  unfolding wholeForm
+  num-is load inc face h el ei ef eh = rw (el, ei, ef, eh)
+
+  pub num-room : solid a .0 + e ≤ 150_000_000 → q ≤ 5000 → factor ≤ 2000 → items ≤ largestItems
+      → wholeForm l k factor q a e items .num < 2 ^ 256
+  unfolding wholeForm
+  num-room hu hq hf hi =
+      let h : incidenceDen l (solid a .0) e * faceDen l (solid a .0 + e) ≤ 2 ^ 63 * 2 ^ 67 =
+      mul-le-mul {n₂ = 2 ^ 63} {m₂ = 2 ^ 67} (incidence-den-bound l (solid a .0) e hu) (face-den-bound l (solid a .0 + e) hu) in
+      let d : incidenceDen l (solid a .0) e * faceDen l (solid a .0 + e) * 1_000_000_000_000_000 ≤ 2 ^ 63 * 2 ^ 67 * 1_000_000_000_000_000 =
+      mul-le-mul {n₂ = 2 ^ 63 * 2 ^ 67} {m₂ = 1_000_000_000_000_000} h (leb-true 1_000_000_000_000_000 1_000_000_000_000_000 refl) in
+      lt-of-le-of-lt (le-trans (num-bound l k factor q a e items hu hq hf hi) (mul-le-mul-left (2 ^ 27) d))
+      (leb-true (2 ^ 27 * (2 ^ 63 * 2 ^ 67 * 1_000_000_000_000_000) + 1) (2 ^ 256) refl)
+
+  pub radicand-of : (load inc : ℕ) → load ≡ q * factor → inc ≡ incidenceNum l k a e
+      → load * inc * 1_000_000 * a .supercritical .0 * (solid a .0 + e) * (load * inc * 1_000_000 * a .supercritical .0 * (solid a .0 + e)) * rootNum l (solid a .0) e
+      ≡ wholeForm l k factor q a e items .radicand
+  unfolding wholeForm
+  radicand-of load inc el ei = rw (el, ei)
+
+  pub den-is : (h : ℕ) → h ≡ incidenceDen l (solid a .0) e * faceDen l (solid a .0 + e)
+      → h * 1_000_000_000_000_000 ≡ wholeForm l k factor q a e items .den
+  unfolding wholeForm
+  den-is h eh = rw eh
+
+  -- wide numbers with these values
+  module _ (n d : U256) (m : U512) (en : value256 n ≡ wholeForm l k factor q a e items .num)
+      (ed : value256 d ≡ wholeForm l k factor q a e items .den) (em : value512 m ≡ wholeForm l k factor q a e items .radicand)
+      (hs : 0 < solid a .0) where
+    surd-is : surd n d m ≡ wholeForm l k factor q a e items
+    unfolding surd
+    surd-is = rw (en, ed, em)
+
+    pub den-above : 0 < value256 d
+    den-above = rw ed (den-positive l k factor q a e items hs)
+
+    pub most-reaches : solid a .0 + e ≤ 150_000_000 → q ≤ 5000 → factor ≤ 2000 → items ≤ largestItems → reaches (surd n d m) (2 ^ 27) ≡ true
+    most-reaches hu hq hf hi = rw surd-is (whole-reaches _ (2 ^ 27) (num-bound l k factor q a e items hu hq hf hi))
+
+    pub least-exact : (f : ℕ) → Least (number (surd n d m)) f → Least (exact l k factor q (grossOf a e) a items) f
+    least-exact f h =
+        let p : _ = den-positive l k factor q a e items hs in
+        let g : Least (number (wholeForm l k factor q a e items)) f = rw surd-is at h in
+        least-same (number-sound _ p) (exact-sound l k factor q (grossOf a e) a items (omega arith) hs) (same-sym (exact-whole l k factor q a e items)) g

@@ -1,0 +1,81 @@
+-- What follows from the promises of `section_load` and `item_sum`: the force is in the band, and it is the same for the same legs, section, items
+-- in any order and wind. `Loaded` and `Summed` are the functions' own contracts, of the values handed over and handed back.
+use Prim.Native.Nat.{ℕ, _-_, _≤_, _<_}
+use mathlib.Core.Path.{_≡_, refl, ap, sym, subst, _∙_}
+use mathlib.Core.Bool.{true}
+use mathlib.Core.List.{List, List·Permᴰ}
+use native.Mathlib.Omega.{arith}
+use lib.ListN.{length, take}
+use Rattle.units.specs.declared.Length.{Length}
+use Rattle.units.specs.declared.Area.{Area}
+use Rattle.exact.specs.Fraction.{whole}
+use Rattle.exact.specs.Number.{AtMost, Within, Least, Sound}
+use Rattle.exact.proofs.Ceiling.{least-unique, ceiling-least, least-within}
+use Rattle.model.specs.declared.Legs.{Legs}
+use Rattle.model.specs.declared.Section as stored
+use Rattle.model.specs.declared.Item.{Item}
+use Rattle.model.specs.declared.Areas.{Areas}
+use Rattle.model.specs.Tower.{Section, Tower, Wind, sectionOf}
+use Rattle.model.specs.Areas.{thickness, areasOf, solid, gross}
+use Rattle.model.specs.Force.{itemSum, exact, exactForce}
+use Rattle.model.specs.Report.{sectionAt, pressureAt, areasAt, exactAt, forceAt}
+use Rattle.model.specs.Valid.{ValidWind}
+use Rattle.model.proofs.Lists.{sumBy-perm}
+use Rattle.model.proofs.ExactForce.{exact-sound, exact-nonneg}
+use Rattle.model.proofs.Forces.{opened, sound-at}
+use Rattle.force.specs.declared.Load.{Load}
+use Rattle.areas.specs.Fits.{fitsUnder}
+use Rattle.force.proofs.Loads.{solid-known}
+use Rattle.force.proofs.section.section_load.Reads as load-reads
+use Rattle.areas.proofs.items.item_sum.Reads as sum-reads
+
+abbrev pub Loaded : Legs → ℕ → Length → ℕ → stored.Section → ℕ → ℕ → Load → Type 0
+Loaded l k t factor s q items r =
+    load-reads.Post tt (l, (k, (t, (factor, (s, (q, (items, tt))))))) r (l, (k, (t, (factor, (s, (q, (items, tt)))))))
+
+abbrev pub Summed : Length → ℕ → List Item → ℕ → ℕ → Type 0
+Summed t i items held n = sum-reads.Post tt (t, (i, (items, (held, tt)))) n (t, (i, (items, (held, tt))))
+
+-- exact ≤ force < exact + 1, and so within every wider band: document 01's is 2
+module _ (l : Legs) (k : ℕ) (t : Length) (factor : ℕ) (s : stored.Section) (q items : ℕ) (h : fitsUnder t s ≡ true) where
+  solid-in : (0 < solid (areasOf t q (sectionOf s .groups)) .0) × (solid (areasOf t q (sectionOf s .groups)) .0 ≤ gross (sectionOf s) .0)
+  solid-in = solid-known t q s h (areasOf t q (sectionOf s .groups)) (gross (sectionOf s)) refl refl
+
+  force-sound : Sound (exactForce l k t factor (sectionOf s) q items)
+  unfolding exactForce
+  force-sound = exact-sound l k factor q _ _ items (omega (arith, solid-in)) (solid-in .0)
+
+  force-nonneg : AtMost (whole 0) (exactForce l k t factor (sectionOf s) q items)
+  unfolding exactForce
+  force-nonneg =
+      let a : Areas = areasOf t q (sectionOf s .groups) in
+      let u : Area = gross (sectionOf s) in
+      subst (λ (x : Area). AtMost (whole 0) (exact l k factor q x a items)) (opened a u (solid-in .1))
+      (exact-nonneg l k factor q a (u .0 - solid a .0) items (solid-in .0))
+
+  pub load-within : {r : Load} → Loaded l k t factor s q items r → (margin : ℕ) → 0 < margin
+      → Within margin (exactForce l k t factor (sectionOf s) q items) (r .force .0)
+  load-within p margin m = least-within force-sound force-nonneg margin _ m (p .1)
+
+-- two calls with the same legs, section, wind and items, these in any order
+module _ (l : Legs) (k : ℕ) (t : Length) (factor q i : ℕ) (s s′ : stored.Section) (e : sectionOf s ≡ sectionOf s′)
+    (xs ys : List Item) (held held′ : ℕ) (p : List·Permᴰ (take held xs) (take held′ ys)) where
+  pub sum-same : {n m : ℕ} → Summed t i xs held n → Summed t i ys held′ m → n ≡ m
+  unfolding itemSum
+  sum-same a b = a .0 ∙ sumBy-perm _ p ∙ sym (b .0)
+
+  pub load-same : {n m : ℕ} {r r′ : Load} → Summed t i xs held n → Summed t i ys held′ m
+      → Loaded l k t factor s q n r → Loaded l k t factor s′ q m r′ → (r .areas ≡ r′ .areas) × (r .force .0 ≡ r′ .force .0)
+  load-same {n} {m} {r} {r′} a b c d =
+      let g : Least (exactForce l k t factor (sectionOf s′) q m) (r .force .0) = rw (← e, ← sum-same a b) (c .1) in
+      (c .0 ∙ ap (λ (x : Section). areasOf t q (x .groups)) e ∙ sym (d .0), least-unique g (d .1))
+
+-- it is the force that the report shows
+module _ (t : Tower) (w : Wind) (v : ValidWind t w) (i : ℕ) (h : i < length (t .sections)) (s : stored.Section) (e : sectionOf s ≡ sectionAt t i) where
+  pub load-reported : {r : Load}
+      → Loaded (t .legs) (w .direction) (thickness (w .ice)) (w .factor) s (pressureAt w i) (itemSum (thickness (w .ice)) i (t .items)) r
+      → (r .areas ≡ areasAt t w i) × (r .force ≡ forceAt t w i)
+  unfolding areasAt exactAt forceAt
+  load-reported {r} p =
+      let g : Least (exactAt t w i) (r .force .0) = rw (← e) (p .1) in
+      (rw (← e) (p .0), ap (λ (n : ℕ). record { 0 = n }) (least-unique g (ceiling-least (exactAt t w i) (sound-at t w v i h .rational))))

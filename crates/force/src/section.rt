@@ -1,0 +1,34 @@
+// The areas of a section's face and the force on it.
+ghost use mathlib.Core.Path.{_≡_};
+ghost use mathlib.Core.Bool.{true};
+ghost use Prim.Native.Nat.{_≤_};
+ghost use Rattle.exact.specs.Number.{Least};
+ghost use Rattle.model.specs.Tower.{sectionOf};
+ghost use Rattle.model.specs.Areas.{areasOf};
+ghost use Rattle.model.specs.Force.{largestItems, exactForce};
+ghost use Rattle.areas.specs.Fits.{fitsUnder};
+use crate::Load;
+use model::Legs;
+use model::Section;
+use units::Length;
+
+// Direction k, ice of thickness t, pressure q; `items` is the sum of the section's items. The force is the least whole number of
+// newtons that is not below document 01's exact force.
+pub fn section_load(
+    legs: Legs,
+    k: u32,
+    t: Length,
+    factor: u32,
+    s: Section,
+    q: u16,
+    items: u64,
+) -> Load
+    requires { ⌜ (fitsUnder t s ≡ true) × (factor ≤ 2000) × (q ≤ 5000) × (items ≤ largestItems) ⌝ }
+    ensures { λ r. ⌜ (r .areas ≡ areasOf t q (sectionOf s .groups)) × Least (exactForce legs k t factor (sectionOf s) q items) (r .force .0) ⌝ }
+{
+    let areas = areas::section::section_areas(t, q, s);
+    let gross = areas::section::gross_area(s);
+    let solid = areas::section::solid_area(areas);
+    let force = crate::least::least_force(legs, k, factor, q, areas, gross.0 - solid.0, items);
+    Load { areas, force }
+}

@@ -1,0 +1,161 @@
+// Reads cases from standard input, one a line, and prints for each its areas, the items' sum and the force. A line is LEGS K ICE FACTOR
+// PRESSURE WIDTH HEIGHT GROUPCOUNT (KIND SIZE LENGTH)* ITEMCOUNT (SECTION WIDTH LENGTH BARE ICED POSITION)*.
+mod numbers;
+mod text;
+
+use areas::items::item_sum;
+use areas::ranges::items_fit;
+use case_words::Case;
+use case_words::Fault;
+use case_words::case_of;
+use case_words::faults::fault_of;
+use case_words::faults::groups_end;
+use case_words::faults::legs_of;
+use case_words::faults::thickness;
+use case_words::items::items_of;
+use force::Load;
+use force::section::section_load;
+use libc::STDIN_FILENO;
+use libc::STDOUT_FILENO;
+use model::Item;
+use text::put;
+use text::put_bytes;
+use text::put_number;
+ghost use Prim.Native.Nat.{_≤_};
+ghost use mathlib.Core.Path.{_≡_};
+ghost use mathlib.Core.Bool.{true};
+ghost use lib.ListN.{length, take};
+ghost use Rattle.model.specs.Lists.{allOf};
+ghost use Rattle.model.specs.File.{fieldsInRange};
+ghost use Rattle.case_words.specs.Faults.{faultOf};
+
+// A number and the place after it.
+enum Number {
+    At(u64, usize),
+    Bad,
+}
+
+// How many numbers a line has.
+enum Count {
+    Of(usize),
+    Bad,
+}
+
+// Each of the functions below puts a line into out and answers its length.
+fn refuse(out: &mut [u8], why: &[u8]) -> usize
+    ensures { λ r. ⌜ r ≤ length (now (out .entry)) ⌝ }
+{
+    let at = put_bytes(out, 0, b"error: ");
+    let at = put_bytes(out, at, why);
+    put(out, at, b'\n')
+}
+
+fn refuse_case(out: &mut [u8], fault: Fault) -> usize
+    ensures { λ r. ⌜ r ≤ length (now (out .entry)) ⌝ }
+{
+    match fault {
+        Fault::None => refuse(out, b"nothing is wrong"),
+        Fault::Legs => refuse(out, b"legs are not 3 or 4"),
+        Fault::Direction => refuse(out, b"k is above 23, or odd with three legs"),
+        Fault::Ice => refuse(out, b"ice is above 5"),
+        Fault::Factor => refuse(out, b"the structure factor is not 500 to 2000"),
+        Fault::Pressure => refuse(out, b"the pressure is above 5000"),
+        Fault::Section => refuse(out, b"the section is out of range"),
+    }
+}
+
+fn put_load(out: &mut [u8], load: Load, items: u64) -> usize
+    ensures { λ r. ⌜ r ≤ length (now (out .entry)) ⌝ }
+{
+    let at = put_number(out, 0, load.areas.flat.0, b' ');
+    let at = put_number(out, at, load.areas.subcritical.0, b' ');
+    let at = put_number(out, at, load.areas.supercritical.0, b' ');
+    let at = put_number(out, at, items, b' ');
+    put_number(out, at, load.force.0, b'\n')
+}
+
+fn answer_case(c: Case, items: [Item; 64], held: usize, out: &mut [u8]) -> usize
+    requires { ⌜ (faultOf c ≡ Fault.None) × (held ≤ 64) × (allOf fieldsInRange (take held items) ≡ true) ⌝ }
+    ensures { λ r. ⌜ r ≤ length (now (out .entry)) ⌝ }
+{
+    let t = thickness(c.ice);
+    let sum = item_sum(t, 0, items, held);
+    let legs = legs_of(c.legs);
+    let s = c.section;
+    let load = section_load(legs, c.direction, t, c.factor, s, c.pressure, sum);
+    put_load(out, load, sum)
+}
+
+// The items of a case, whose count stands at `end`.
+fn answer_items(c: Case, numbers: &[u64], end: usize, out: &mut [u8]) -> usize
+    requires { ⌜ (faultOf c ≡ Fault.None) × (end ≤ 32) ⌝ }
+    ensures { λ r. ⌜ r ≤ length (now (out .entry)) ⌝ }
+{
+    if numbers.len() <= end {
+        return refuse(out, b"numbers are missing");
+    }
+    let held = numbers[end];
+    if 64 < held {
+        return refuse(out, b"there are more than 64 items");
+    }
+    let held = held as usize;
+    if numbers.len() != end + 1 + 6 * held {
+        return refuse(out, b"there are not as many numbers as the counts say");
+    }
+    let items = items_of(numbers, end + 1);
+    if !items_fit(items, held) {
+        return refuse(out, b"an item is out of range");
+    }
+    answer_case(c, items, held, out)
+}
+
+fn answer_numbers(numbers: &[u64], out: &mut [u8]) -> usize
+    ensures { λ r. ⌜ r ≤ length (now (out .entry)) ⌝ }
+{
+    if numbers.len() < 8 {
+        return refuse(out, b"numbers are missing");
+    }
+    let c = case_of(numbers);
+    let fault = fault_of(c);
+    let Fault::None = fault else {
+        return refuse_case(out, fault);
+    };
+    let end = groups_end(c);
+    answer_items(c, numbers, end, out)
+}
+
+fn answer(line: &[u8], numbers: &mut [u64], out: &mut [u8]) -> usize
+    ensures { λ r. ⌜ r ≤ length (now (out .entry)) ⌝ }
+{
+    let count = numbers::numbers_of(line, numbers);
+    let Count::Of(n) = count else {
+        return refuse(
+            out,
+            b"not numbers with single spaces between them, or one is too large, or they are too many",
+        );
+    };
+    answer_numbers(&numbers[0..n], out)
+}
+
+fn answer_all(text: &[u8], numbers: &mut [u64], out: &mut [u8]) {
+    let mut at: usize = 0;
+    while at < text.len() {
+        let end = bytes::scan::find(text, at, text.len(), b'\n');
+        let n = answer(&text[at..end], numbers, out);
+        io::write_all(STDOUT_FILENO, &out[0..n]);
+        at = end + 1;
+    }
+}
+
+// The input may have 500 000 bytes.
+fn main() {
+    let mut text = [0u8; 500_001];
+    let n = io::read_full(STDIN_FILENO, &mut text);
+    if 500_000 < n {
+        io::write_all(STDOUT_FILENO, b"error: the input is too long\n");
+        return;
+    }
+    let mut numbers = [0u64; 417];
+    let mut out = [0u8; 256];
+    answer_all(&text[..n], &mut numbers, &mut out);
+}

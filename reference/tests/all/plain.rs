@@ -1,0 +1,64 @@
+//! The plain floating-point version beside the exact one.
+
+use reference::cases::{all, Case};
+use reference::plain::{direction_share, force, whole_force};
+use reference::rational::Rational;
+use reference::tower::{Legs, Section, Wind};
+use std::cmp::Ordering;
+
+/// A plain version on the case; it takes the items' sum in m².
+fn on<T>(case: &Case, plain: fn(Legs, &Section, &Wind, u16, f64) -> T) -> T {
+    let items = case.item_sum() as f64 / 1e12;
+    let (tower, wind) = (&case.tower, &case.wind);
+    plain(tower.legs, case.section(), wind, case.pressure(), items)
+}
+
+/// A number that is not negative, to 2⁻³⁰.
+fn rational(number: f64) -> Rational {
+    let scale = 1 << 30;
+    Rational::fraction((number * scale as f64).round() as u64, scale)
+}
+
+/// Within 10⁻¹² of itself and 10⁻⁸ N, so within 0.001 N for all that a tower
+/// can have.
+#[test]
+fn the_plain_force_is_near_the_exact_one() {
+    for case in all() {
+        let near = on(&case, force);
+        let slack = 1e-12 * near + 1e-8;
+        let exact = case.exact_force();
+        let least = rational((near - slack).max(0.0));
+        assert_ne!(exact.compare(&least), Ordering::Less, "{}", case.line());
+        let most = rational(near + slack);
+        assert_ne!(exact.compare(&most), Ordering::Greater, "{}", case.line());
+    }
+}
+
+/// Rounded up it is off by 1 N at the most, but it is off: at times too high,
+/// at times below the exact force.
+#[test]
+fn the_plain_force_is_off_by_one_at_times() {
+    let (mut above, mut below) = (0, 0);
+    for case in all() {
+        let plain = on(&case, whole_force);
+        let least = case.exact_force().least_whole().0;
+        assert!(plain.abs_diff(least) <= 1, "{}", case.line());
+        above += usize::from(plain > least);
+        below += usize::from(plain < least);
+    }
+    assert!(above > 0 && below > 0, "{above} above, {below} below");
+}
+
+/// (1 - cos 4θ)/2 for the square and (1 - cos 3θ)/2 for the triangle have the
+/// values of the tables.
+#[test]
+fn the_shares_of_the_directions_are_those_of_cosines() {
+    for direction in 0..24 {
+        let share = |times: u32| (1.0 - f64::from(15 * times * direction).to_radians().cos()) / 2.0;
+        let square = direction_share(Legs::Four, direction);
+        assert!((square - share(4)).abs() < 1e-12, "{direction}");
+        let triangle = direction_share(Legs::Three, direction);
+        let even = direction % 2 == 0;
+        assert!(!even || (triangle - share(3)).abs() < 1e-12, "{direction}");
+    }
+}
