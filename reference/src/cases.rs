@@ -1,10 +1,12 @@
 //! Single sections under a wind: the cases that the program `force_cases`
-//! reads, a line for each, and what it has to print for them.
+//! reads, a line for each, and what it has to print for them. Lines that are no
+//! case follow, with the message for each.
 
 mod extremes;
 mod ice;
 mod limits;
 mod ratios;
+mod refused;
 mod samples;
 mod whole;
 
@@ -15,6 +17,7 @@ use crate::outputs::OutputFile;
 use crate::report::rows;
 use crate::tower::{Item, Legs, Section, Tower, Wind};
 
+pub use refused::{breaking_one_rule, breaking_two_rules, Refused};
 pub use samples::sample_cases;
 
 /// The section of a tower with one section. Its items may hang on other
@@ -133,14 +136,25 @@ pub fn all() -> Vec<Case> {
     .concat()
 }
 
-/// `stdin` and `stdout` of the program.
+/// `stdin` and `stdout` of the program: all cases, then the refused lines, each
+/// with a sample behind it.
 pub fn files() -> Vec<OutputFile> {
-    let cases = all();
-    let file = |name, line: fn(&Case) -> String| OutputFile {
+    let (mut stdin, mut stdout) = (String::new(), String::new());
+    for case in all() {
+        stdin += &case.line();
+        stdout += &case.answer();
+    }
+    let refused = [breaking_one_rule(), breaking_two_rules()].concat();
+    for (refused, case) in refused.iter().zip(sample_cases().iter().cycle()) {
+        stdin += &format!("{}\n{}", refused.line, case.line());
+        stdout += &format!("error: {}\n{}", refused.message, case.answer());
+    }
+    let files = [("stdin", stdin), ("stdout", stdout)];
+    let file = |(name, text): (_, String)| OutputFile {
         name,
-        bytes: cases.iter().map(line).collect::<String>().into_bytes(),
+        bytes: text.into_bytes(),
     };
-    vec![file("stdin", Case::line), file("stdout", Case::answer)]
+    files.map(file).to_vec()
 }
 
 /// Drawn sections of any kind, some full to the last mm² or nearly so.

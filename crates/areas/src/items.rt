@@ -1,16 +1,16 @@
 // Document 01, "The exact force": what the ancillary items of a section add.
-use super::section::iced_area;
-use model::Item;
-use units::Length;
 ghost use mathlib.Core.Path.{_≡_};
 ghost use mathlib.Core.Bool.{true, cond};
 ghost use Prim.Native.Nat.{_*_, _≤_};
 ghost use lib.Dec.{eqb};
 ghost use lib.ListN.{take};
 ghost use Rattle.model.specs.Lists.{allOf};
-ghost use Rattle.model.specs.Force.{itemPart, itemSum, largestItems};
+ghost use Rattle.model.specs.Force.{itemPart, itemSum, largestItem, largestItems};
 ghost use Rattle.model.specs.Force as force;
 ghost use Rattle.model.specs.File.{fieldsInRange};
+use crate::section::iced_area;
+use model::Item;
+use units::Length;
 
 // In thousandths: the iced one if there is ice.
 fn coefficient(t: Length, it: Item) -> u64
@@ -26,7 +26,7 @@ fn coefficient(t: Length, it: Item) -> u64
 // Coefficient · K · area, in millionths of mm².
 fn item_part(t: Length, it: Item) -> u64
     requires { ⌜ (t .0 ≤ 50) × (fieldsInRange it ≡ true) ⌝ }
-    ensures { λ r. ⌜ (r ≡ itemPart t it) × (r ≤ 3000 * 1000 * 31_000_000) ⌝ }
+    ensures { λ r. ⌜ (r ≡ itemPart t it) × (r ≤ largestItem) ⌝ }
 {
     let a = iced_area(t, it.width, it.length);
     let c = coefficient(t, it);
@@ -36,7 +36,7 @@ fn item_part(t: Length, it: Item) -> u64
 // The same where the item hangs on the section, else 0.
 fn part_on(t: Length, section: usize, it: Item) -> u64
     requires { ⌜ (t .0 ≤ 50) × (fieldsInRange it ≡ true) ⌝ }
-    ensures { λ r. ⌜ (r ≡ cond (eqb (it .section) section) (itemPart t it) 0) × (r ≤ 3000 * 1000 * 31_000_000) ⌝ }
+    ensures { λ r. ⌜ (r ≡ cond (eqb (it .section) section) (itemPart t it) 0) × (r ≤ largestItem) ⌝ }
 {
     let hung = it.section as usize;
     if hung == section {

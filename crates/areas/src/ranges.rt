@@ -1,13 +1,4 @@
 // Whether groups, items and sections are within document 01's ranges.
-use super::section::gross_area;
-use super::section::section_areas;
-use super::section::solid_area;
-use model::Group;
-use model::Item;
-use model::Member;
-use model::Section;
-use units::Area;
-use units::Length;
 ghost use mathlib.Core.Path.{_≡_};
 ghost use mathlib.Core.Bool.{true, _&&_};
 ghost use Prim.Native.Nat.{_≤_};
@@ -19,8 +10,17 @@ ghost use Rattle.model.specs.Areas.{sizeOf, solidOf};
 ghost use Rattle.model.specs.File.{fieldsInRange};
 ghost use Rattle.model.specs.Valid.{groupFits};
 ghost use Rattle.areas.specs.Fits.{sizesFit, fitsUnder};
+use crate::section::gross_area;
+use crate::section::section_areas;
+use crate::section::solid_area;
+use model::Group;
+use model::Item;
+use model::Member;
+use model::Section;
+use units::Area;
+use units::Length;
 
-fn within(low: u32, high: u32, x: u32) -> bool
+pub fn within(low: u32, high: u32, x: u32) -> bool
     ensures { λ r. ⌜ r ≡ leb low x && leb x high ⌝ }
 {
     low <= x && x <= high
@@ -42,7 +42,7 @@ pub fn group_fits(g: Group) -> bool
     member_fits(m) && within(1, 200_000, g.length.0)
 }
 
-pub fn item_fits(it: Item) -> bool
+pub fn fields_in_range(it: Item) -> bool
     ensures { λ r. ⌜ r ≡ fieldsInRange it ⌝ }
 {
     if !within(1, 3000, it.width.0) {
@@ -68,14 +68,14 @@ pub fn items_fit(items: [Item; 64], held: usize) -> bool
     }
     for i in 0usize..held {
         let it = items[i];
-        if !item_fits(it) {
+        if !fields_in_range(it) {
             return false;
         }
     }
     true
 }
 
-fn groups_fit(s: Section) -> bool
+pub fn groups_fit(s: Section) -> bool
     requires { ⌜ s .count ≤ 8 ⌝ }
     ensures { λ r. ⌜ r ≡ allOf groupFits (take (s .count) (s .groups)) ⌝ }
 {
@@ -90,7 +90,7 @@ fn groups_fit(s: Section) -> bool
 }
 
 // Width, height, allowance and the number of groups.
-fn sizes_fit(s: Section) -> bool
+pub fn sizes_fit(s: Section) -> bool
     ensures { λ r. ⌜ r ≡ sizesFit s ⌝ }
 {
     if !within(100, 15_000, s.width.0) {
@@ -117,7 +117,7 @@ fn solid_under(t: Length, s: Section) -> Area
 }
 
 // A section that stands bare and under ice of thickness t: A_S is at most A_u both times.
-pub fn section_fits(t: Length, s: Section) -> bool
+pub fn fits_under(t: Length, s: Section) -> bool
     ensures { λ r. ⌜ r ≡ fitsUnder t s ⌝ }
 {
     if 50 < t.0 {

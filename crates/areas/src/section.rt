@@ -1,4 +1,14 @@
 // Document 01, "Areas and flow".
+ghost use mathlib.Core.Path.{_≡_};
+ghost use mathlib.Core.Bool.{true};
+ghost use Prim.Native.Nat.{_≤_};
+ghost use lib.ListN.{take};
+ghost use Rattle.model.specs.Lists.{allOf};
+ghost use Rattle.model.specs.Tower.{sectionOf};
+ghost use Rattle.model.specs.Areas as areas;
+ghost use Rattle.model.specs.Areas.{sizeOf, icedArea, groupArea, isSupercritical, flowOf, areasOf, solid, gross, largestGross};
+ghost use Rattle.model.specs.Valid.{groupFits};
+ghost use Rattle.areas.specs.Sums.{Added, SmallAreas};
 use model::Areas;
 use model::Flow;
 use model::Group;
@@ -6,15 +16,14 @@ use model::Member;
 use model::Section;
 use units::Area;
 use units::Length;
-ghost use mathlib.Core.Path.{_≡_};
-ghost use mathlib.Core.Bool.{true};
-ghost use Prim.Native.Nat.{_≤_};
-ghost use lib.ListN.{take};
-ghost use Rattle.model.specs.Lists.{allOf};
-ghost use Rattle.model.specs.Tower.{sectionOf};
-ghost use Rattle.model.specs.Areas.{sizeOf, icedArea, groupArea, isSupercritical, flowOf, areasOf, solid, gross};
-ghost use Rattle.model.specs.Valid.{groupFits};
-ghost use Rattle.areas.specs.Sums.{Added, SmallAreas};
+
+// The ice of a class.
+pub fn thickness(class: u32) -> Length
+    requires { ⌜ class ≤ 5 ⌝ }
+    ensures { λ r. ⌜ r ≡ areas.thickness class ⌝ }
+{
+    Length(10 * class)
+}
 
 // A length times a width with ice on both sides.
 pub(crate) fn iced_area(t: Length, width: Length, length: Length) -> Area
@@ -77,17 +86,17 @@ fn add_group(t: Length, q: u16, g: Group, sum: Areas) -> Areas
     match class {
         Flow::Flat => Areas {
             flat: Area(flat.0 + a.0),
-            subcritical: subcritical,
-            supercritical: supercritical,
+            subcritical,
+            supercritical,
         },
         Flow::Subcritical => Areas {
-            flat: flat,
+            flat,
             subcritical: Area(subcritical.0 + a.0),
-            supercritical: supercritical,
+            supercritical,
         },
         Flow::Supercritical => Areas {
-            flat: flat,
-            subcritical: subcritical,
+            flat,
+            subcritical,
             supercritical: Area(supercritical.0 + a.0),
         },
     }
@@ -122,7 +131,7 @@ pub fn solid_area(a: Areas) -> Area
 // A_u.
 pub fn gross_area(s: Section) -> Area
     requires { ⌜ (s .width .0 ≤ 15_000) × (s .height .0 ≤ 10_000) ⌝ }
-    ensures { λ r. ⌜ (r ≡ gross (sectionOf s)) × (r .0 ≤ 150_000_000) ⌝ }
+    ensures { λ r. ⌜ (r ≡ gross (sectionOf s)) × (r .0 ≤ largestGross) ⌝ }
 {
     Area((s.width.0 as u64) * (s.height.0 as u64))
 }

@@ -24,14 +24,15 @@ in32 x = min x 4_294_967_295
 abbrev pub in16 : ℕ → ℕ
 in16 x = min x 65_535
 
-abbrev pub memberOf : ℕ → ℕ → Member
-memberOf kind size =
+-- kinds are 0 and 1; any other has size 0, which no member may have
+abbrev pub memberRead : ℕ → ℕ → Member
+memberRead kind size =
     cond (eqb kind 0) (Flat (record { 0 = size })) (cond (eqb kind 1) (Round (record { 0 = size })) (Flat (record { 0 = 0 })))
 
 unfoldable pub groupOf : List ℕ → ℕ → Group
 groupOf ws i =
     record {
-      member = memberOf (at ws (8 + 3 * i)) (in32 (at ws (9 + 3 * i)));
+      member = memberRead (at ws (8 + 3 * i)) (in32 (at ws (9 + 3 * i)));
       length = record { 0 = in32 (at ws (10 + 3 * i)) };
     }
 

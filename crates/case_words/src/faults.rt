@@ -1,18 +1,21 @@
 // What is wrong with a case.
-use super::Case;
-use super::Fault;
-use areas::ranges::section_fits;
-use model::Legs;
-use units::Length;
 ghost use mathlib.Core.Path.{_≡_};
-ghost use mathlib.Core.Bool.{_&&_};
-ghost use Prim.Native.Nat.{_+_, _*_, _≤_};
-ghost use lib.Dec.{leb};
-ghost use Rattle.model.specs.Areas as areas;
+ghost use Prim.Native.Nat.{_≤_};
+ghost use Rattle.model.specs.File.{legsOf};
 ghost use Rattle.model.specs.Machine.{directionFits};
-ghost use Rattle.case_words.specs.Faults.{legsOf, faultOf};
+ghost use Rattle.case_words.specs.Faults.{groupsEnd, sectionFault, faultOf, SoundCase};
+use crate::Case;
+use crate::Fault;
+use areas::ranges::fits_under;
+use areas::ranges::groups_fit;
+use areas::ranges::sizes_fit;
+use areas::ranges::within;
+use areas::section::thickness;
+use model::Legs;
+use model::Section;
+use units::Length;
 
-// Three or four.
+// Four for any number but 3.
 pub fn legs_of(n: u32) -> Legs
     ensures { λ r. ⌜ r ≡ legsOf n ⌝ }
 {
@@ -22,21 +25,7 @@ pub fn legs_of(n: u32) -> Legs
     Legs::Four
 }
 
-// The ice of a class.
-pub fn thickness(class: u32) -> Length
-    requires { ⌜ class ≤ 5 ⌝ }
-    ensures { λ r. ⌜ r ≡ areas.thickness class ⌝ }
-{
-    Length(10 * class)
-}
-
-fn within(low: u32, high: u32, x: u32) -> bool
-    ensures { λ r. ⌜ r ≡ leb low x && leb x high ⌝ }
-{
-    low <= x && x <= high
-}
-
-// Where three legs stand, k is even.
+// k is 0 to 23, and even on three legs.
 fn direction_fits(legs: u32, k: u32) -> bool
     ensures { λ r. ⌜ r ≡ directionFits (legsOf legs) k ⌝ }
 {
@@ -46,9 +35,41 @@ fn direction_fits(legs: u32, k: u32) -> bool
     within(0, 23, k)
 }
 
-pub fn fault_of(c: Case) -> Fault
-    ensures { λ r. ⌜ r ≡ faultOf c ⌝ }
+// The place after the groups.
+pub fn groups_end(s: Section) -> usize
+    requires { ⌜ s .count ≤ 8 ⌝ }
+    ensures { λ r. ⌜ (r ≡ groupsEnd s) × (r ≤ 32) ⌝ }
 {
+    8 + 3 * s.count
+}
+
+// The section, where there are n numbers and the ice is t thick.
+fn section_fault(t: Length, n: usize, s: Section) -> Fault
+    requires { ⌜ t .0 ≤ 50 ⌝ }
+    ensures { λ r. ⌜ r ≡ sectionFault t n s ⌝ }
+{
+    if !sizes_fit(s) {
+        return Fault::Sizes;
+    }
+    if n < groups_end(s) {
+        return Fault::Missing;
+    }
+    if !groups_fit(s) {
+        return Fault::Groups;
+    }
+    if !fits_under(t, s) {
+        return Fault::Solidity;
+    }
+    Fault::None
+}
+
+// A case that was read from n numbers.
+pub fn fault_of(c: Case, n: usize) -> Fault
+    ensures { λ r. ⌜ (r ≡ faultOf c n) × (r ≡ Fault.None → SoundCase c) ⌝ }
+{
+    if n < 8 {
+        return Fault::Missing;
+    }
     if !within(3, 4, c.legs) {
         return Fault::Legs;
     }
@@ -65,16 +86,5 @@ pub fn fault_of(c: Case) -> Fault
         return Fault::Pressure;
     }
     let s = c.section;
-    if !section_fits(thickness(c.ice), s) {
-        return Fault::Section;
-    }
-    Fault::None
-}
-
-// The place after the groups.
-pub fn groups_end(c: Case) -> usize
-    requires { ⌜ faultOf c ≡ Fault.None ⌝ }
-    ensures { λ r. ⌜ (r ≡ 8 + 3 * c .section .count) × (r ≤ 32) ⌝ }
-{
-    8 + 3 * c.section.count
+    section_fault(thickness(c.ice), n, s)
 }

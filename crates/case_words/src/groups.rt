@@ -1,17 +1,17 @@
 // The groups of a section.
-use super::words::word;
-use super::words::word32;
-use model::Group;
-use model::Member;
-use units::Length;
 ghost use mathlib.Core.Path.{_≡_};
 ghost use Prim.Native.Nat.{_<_};
 ghost use Rattle.model.specs.Lists.{listTo};
-ghost use Rattle.case_words.specs.Words.{memberOf, groupOf};
+ghost use Rattle.case_words.specs.Words.{memberRead, groupOf};
+use crate::words::word;
+use crate::words::word32;
+use model::Group;
+use model::Member;
+use units::Length;
 
 // Kinds are 0 and 1. Any other has size 0, which no member may have.
-fn member_of(kind: u64, size: u32) -> Member
-    ensures { λ r. ⌜ r ≡ memberOf kind size ⌝ }
+fn member_read(kind: u64, size: u32) -> Member
+    ensures { λ r. ⌜ r ≡ memberRead kind size ⌝ }
 {
     if kind == 0 {
         return Member::Flat(Length(size));
@@ -30,7 +30,7 @@ fn group_at(numbers: &[u64], i: usize) -> Group
     let size = word32(numbers, 9 + 3 * i);
     let length = word32(numbers, 10 + 3 * i);
     Group {
-        member: member_of(kind, size),
+        member: member_read(kind, size),
         length: Length(length),
     }
 }

@@ -1,15 +1,15 @@
 // The items that hang on a tower: (SECTION WIDTH LENGTH BARE ICED POSITION)*.
-use super::words::to_u8;
-use super::words::to_u32;
-use super::words::word;
-use super::words::word16;
-use super::words::word32;
-use model::Item;
-use units::Length;
 ghost use mathlib.Core.Path.{_≡_};
 ghost use Prim.Native.Nat.{_≤_, _<_};
 ghost use Rattle.model.specs.Lists.{listTo};
 ghost use Rattle.case_words.specs.Words.{itemOf, itemFrom, widthOn};
+use crate::words::to_u8;
+use crate::words::to_u32;
+use crate::words::word;
+use crate::words::word16;
+use crate::words::word32;
+use model::Item;
+use units::Length;
 
 // An item on a section that no tower has gets width 0, which no item may have.
 fn width_on(section: u64, width: u64) -> Length

@@ -1,17 +1,17 @@
 // A section under a wind, as a run of numbers: LEGS K ICE FACTOR PRESSURE WIDTH HEIGHT GROUPCOUNT (KIND SIZE LENGTH)*. What stands past
 // the end counts as 0, and a number that does not fit its type as the largest that does: no range reaches so far.
 pub mod faults;
-pub mod groups;
+mod groups;
 pub mod items;
-pub mod words;
+mod words;
 
+ghost use mathlib.Core.Path.{_≡_};
+ghost use Rattle.case_words.specs.Words.{sectionIn, caseIn};
+use crate::words::word16;
+use crate::words::word32;
 use model::Section;
 use units::Force;
 use units::Length;
-use words::word16;
-use words::word32;
-ghost use mathlib.Core.Path.{_≡_};
-ghost use Rattle.case_words.specs.Words.{sectionIn, caseIn};
 
 // The section and the wind on it, with no test of any range.
 pub struct Case {
@@ -23,15 +23,19 @@ pub struct Case {
     pub section: Section,
 }
 
-// The first number of a case that is out of its range, or the section, or nothing.
+// The first thing that is wrong with a case, or nothing. Missing: there are fewer than 8 numbers, or, after Sizes, too few for the groups.
+// Sizes: the width, the height or the number of groups. Solidity: A_S is above A_u, bare or under the ice.
 pub enum Fault {
     None,
+    Missing,
     Legs,
     Direction,
     Ice,
     Factor,
     Pressure,
-    Section,
+    Sizes,
+    Groups,
+    Solidity,
 }
 
 // All 8 groups are read, however many count.

@@ -20,7 +20,7 @@ pub fn to_u32(x: u64) -> u32
     }
 }
 
-pub fn to_u16(x: u64) -> u16
+fn to_u16(x: u64) -> u16
     ensures { λ r. ⌜ r ≡ min x 65_535 ⌝ }
 {
     if x < 65_535 { x as u16 } else { 65_535 }

@@ -7,16 +7,12 @@ use borrow.Author.Tests.{leb-true}
 use Rattle.model.specs.declared.Legs.{Legs}
 use Rattle.model.specs.declared.Legs.the-variants.{Three, Four}
 use Rattle.model.specs.declared.Areas.{Areas}
-use Rattle.model.specs.Areas.{solid}
+use Rattle.model.specs.Areas.{solid, largestGross}
 use Rattle.model.specs.WholeForm.{incidenceDen, faceDen, flatNum, subcriticalNum, supercriticalNum, faceNum, rootNum}
 
 pub open-sum : (a : Areas) (e n : ℕ) → solid a .0 + e ≤ n → a .flat .0 + a .subcritical .0 + a .supercritical .0 + e ≤ n
 unfolding solid
 open-sum a e n h = h
-
-pub solid-sum : (a : Areas) → solid a .0 ≡ a .flat .0 + a .subcritical .0 + a .supercritical .0
-unfolding solid
-solid-sum a = refl
 
 -- the terms of a quadratic, with A_u at most 15 m by 10 m
 pub record Terms (a b c s e : ℕ) : Type 0 where
@@ -25,9 +21,9 @@ pub record Terms (a b c s e : ℕ) : Type 0 where
   pub second : b * (s * e) ≤ 403 * (s * e)
   pub third : c * (e * e) ≤ 403 * (e * e)
 
-pub terms : (a b c s e : ℕ) → a ≤ 403 → b ≤ 403 → c ≤ 403 → s + e ≤ 150_000_000 → Terms a b c s e
+pub terms : (a b c s e : ℕ) → a ≤ 403 → b ≤ 403 → c ≤ 403 → s + e ≤ largestGross → Terms a b c s e
 terms a b c s e ha hb hc h =
-    let u : (s + e) * (s + e) ≤ 150_000_000 * 150_000_000 = mul-le-mul {n₁ = s + e} {m₁ = s + e} {n₂ = 150_000_000} {m₂ = 150_000_000} h h in
+    let u : (s + e) * (s + e) ≤ largestGross * largestGross = mul-le-mul {n₁ = s + e} {m₁ = s + e} {n₂ = largestGross} {m₂ = largestGross} h h in
     record {
       squares = omega arith;
       first = mul-le-mul-right (s * s) ha;

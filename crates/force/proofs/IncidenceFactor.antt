@@ -1,45 +1,38 @@
 -- The wind incidence factor as code works it out.
-use mathlib.Core.Path.{_≡_, refl, ap, sym, _∙_}
-use mathlib.Core.List.{List, [], _∷_}
+use mathlib.Core.Path.{_≡_, refl, sym, _∙_}
 use Prim.Native.Nat.{ℕ, zero, suc, _+_, _*_, _-_, _%_, _≤_, _<_}
 use native.Mathlib.Omega.{arith}
 use native.Mathlib.Nat.{mul-le-mul, add-assoc}
-use lib.ListN.{getD}
 use borrow.Author.Tests.{le-leb, lt-leb}
 use Rattle.model.specs.Force.{quarters, halves}
 use Rattle.model.specs.declared.Legs.the-variants.{Three, Four}
 use Rattle.model.specs.declared.Areas.{Areas}
-use Rattle.model.specs.Areas.{solid}
+use Rattle.model.specs.Areas.{solid, largestGross}
 use Rattle.model.specs.WholeForm.{k2Num, rounds, incidenceNum}
 
 -- s by the remainder of k
-abbrev pub inQuarters : List ℕ
-inQuarters = 0 ∷ 1 ∷ 3 ∷ 4 ∷ 3 ∷ 1 ∷ []
-
-abbrev pub inHalves : List ℕ
-inHalves = 0 ∷ 0 ∷ 1 ∷ 0 ∷ 2 ∷ 0 ∷ 1 ∷ 0 ∷ []
-
-pub quarters-at : (k n : ℕ) → k % 6 ≡ n → getD inQuarters n 0 ≡ quarters k
+pub quarters-at : (k n : ℕ) → k % 6 ≡ n → quarters n ≡ quarters k
 unfolding quarters
-quarters-at k n e = ap (λ (r : ℕ). getD inQuarters r 0) (sym e)
+quarters-at k n e = let f : n % 6 ≡ k % 6 = omega arith in rw f
 
-pub halves-at : (k n : ℕ) → k % 8 ≡ n → getD inHalves n 0 ≡ halves k
+pub halves-at : (k n : ℕ) → k % 8 ≡ n → halves n ≡ halves k
 unfolding halves
-halves-at k n e = ap (λ (r : ℕ). getD inHalves r 0) (sym e)
+halves-at k n e = let f : n % 8 ≡ k % 8 = omega arith in rw f
 
 pub halves-none : (k : ℕ) → (k % 8 ≡ 2 → ⊥) → (k % 8 ≡ 4 → ⊥) → (k % 8 ≡ 6 → ⊥) → halves k ≡ 0
-halves-none k h2 h4 h6 = sym (halves-at k (k % 8) refl) ∙ rest (k % 8) h2 h4 h6
+unfolding halves
+halves-none k h2 h4 h6 = sym (halves-at k (k % 8) refl) ∙ rest (k % 8) h2 h4 h6 (omega arith)
   where
-    rest : (n : ℕ) → (n ≡ 2 → ⊥) → (n ≡ 4 → ⊥) → (n ≡ 6 → ⊥) → getD inHalves n 0 ≡ 0
-    rest zero g2 g4 g6 = refl
-    rest (suc zero) g2 g4 g6 = refl
-    rest (suc (suc zero)) g2 g4 g6 = absurd (g2 refl)
-    rest (suc (suc (suc zero))) g2 g4 g6 = refl
-    rest (suc (suc (suc (suc zero)))) g2 g4 g6 = absurd (g4 refl)
-    rest (suc (suc (suc (suc (suc zero))))) g2 g4 g6 = refl
-    rest (suc (suc (suc (suc (suc (suc zero)))))) g2 g4 g6 = absurd (g6 refl)
-    rest (suc (suc (suc (suc (suc (suc (suc zero))))))) g2 g4 g6 = refl
-    rest (suc (suc (suc (suc (suc (suc (suc (suc n)))))))) g2 g4 g6 = refl
+    rest : (n : ℕ) → (n ≡ 2 → ⊥) → (n ≡ 4 → ⊥) → (n ≡ 6 → ⊥) → n < 8 → halves n ≡ 0
+    rest zero g2 g4 g6 l = refl
+    rest (suc zero) g2 g4 g6 l = refl
+    rest (suc (suc zero)) g2 g4 g6 l = absurd (g2 refl)
+    rest (suc (suc (suc zero))) g2 g4 g6 l = refl
+    rest (suc (suc (suc (suc zero)))) g2 g4 g6 l = absurd (g4 refl)
+    rest (suc (suc (suc (suc (suc zero))))) g2 g4 g6 l = refl
+    rest (suc (suc (suc (suc (suc (suc zero)))))) g2 g4 g6 l = absurd (g6 refl)
+    rest (suc (suc (suc (suc (suc (suc (suc zero))))))) g2 g4 g6 l = refl
+    rest (suc (suc (suc (suc (suc (suc (suc (suc n)))))))) g2 g4 g6 l = absurd (omega arith)
 
 -- K2 by its ranges
 module _ (S e : ℕ) where
@@ -61,16 +54,16 @@ module _ (S e : ℕ) where
 
 -- the products of Kθ on four legs fit a word
 pub record Products (f r s u x j : ℕ) : Type 0 where
-  pub face : s * u ≤ 150_000_000 * 150_000_000
+  pub face : s * u ≤ largestGross * largestGross
   pub turned : (11 * f + 16 * r) * x ≤ 2_400_000_000 * 750_000_000
   pub times : (11 * f + 16 * r) * x * j ≤ 2_400_000_000 * 750_000_000 * 4
 
-pub products : (f r e x j : ℕ) → f + r + e ≤ 150_000_000 → x ≤ 750_000_000 → j ≤ 4 → Products f r (f + r) (f + r + e) x j
+pub products : (f r e x j : ℕ) → f + r + e ≤ largestGross → x ≤ 750_000_000 → j ≤ 4 → Products f r (f + r) (f + r + e) x j
 products f r e x j h hx hj =
     let a : (11 * f + 16 * r) * x ≤ 2_400_000_000 * 750_000_000 =
     mul-le-mul {n₁ = 11 * f + 16 * r} {m₁ = x} {n₂ = 2_400_000_000} {m₂ = 750_000_000} (omega arith) hx in
     record {
-      face = mul-le-mul {n₁ = f + r} {m₁ = f + r + e} {n₂ = 150_000_000} {m₂ = 150_000_000} (omega arith) h;
+      face = mul-le-mul {n₁ = f + r} {m₁ = f + r + e} {n₂ = largestGross} {m₂ = largestGross} (omega arith) h;
       turned = a;
       times = mul-le-mul {n₁ = (11 * f + 16 * r) * x} {m₁ = j} {n₂ = 2_400_000_000 * 750_000_000} {m₂ = 4} a hj;
     }

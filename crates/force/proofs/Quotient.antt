@@ -12,7 +12,7 @@ use Rattle.exact.proofs.Surds.{number-sound}
 use Rattle.model.specs.declared.Legs.{Legs}
 use Rattle.model.specs.declared.Legs.the-variants.{Three, Four}
 use Rattle.model.specs.declared.Areas.{Areas}
-use Rattle.model.specs.Areas.{solid}
+use Rattle.model.specs.Areas.{solid, largestGross}
 use Rattle.model.specs.Force.{largestItems, exact}
 use Rattle.model.specs.WholeForm.{grossOf, incidenceDen, incidenceNum, faceDen, faceNum, rootNum, wholeForm}
 use Rattle.model.proofs.WholeForm.{exact-whole}
@@ -25,14 +25,14 @@ use Rattle.wide.specs.Reaching.{surd}
 use Rattle.wide.proofs.Reach.{whole-reaches}
 
 -- the numerator and the radicand, from the products that code forms
-pub num-sum : (load inc face items h x y : ℕ) → x ≡ face * inc * (load * 1_000_000) → y ≡ h * items * load
-    → x + y ≡ load * (inc * face * 1_000_000 + items * h)
-num-sum load inc face items h x y ex ey = rw (ex, ey) (omega arith)
+pub num-sum : (factored inc face items h x y : ℕ) → x ≡ face * inc * (factored * 1_000_000) → y ≡ h * items * factored
+    → x + y ≡ factored * (inc * face * 1_000_000 + items * h)
+num-sum factored inc face items h x y ex ey = rw (ex, ey) (omega arith)
 
-pub radicand-is : (load inc p u o l r x y : ℕ) → r ≡ load * 1_000_000 * (p * u) * inc → x ≡ r * o → y ≡ r * l
-    → x * y ≡ load * inc * 1_000_000 * p * u * (load * inc * 1_000_000 * p * u) * (o * l)
-radicand-is load inc p u o l r x y er ex ey =
-    let e : r ≡ load * inc * 1_000_000 * p * u = omega (arith, er) in
+pub radicand-is : (factored inc p u o l r x y : ℕ) → r ≡ factored * 1_000_000 * (p * u) * inc → x ≡ r * o → y ≡ r * l
+    → x * y ≡ factored * inc * 1_000_000 * p * u * (factored * inc * 1_000_000 * p * u) * (o * l)
+radicand-is factored inc p u o l r x y er ex ey =
+    let e : r ≡ factored * inc * 1_000_000 * p * u = omega (arith, er) in
     rw (ex, ey, ← e) (omega arith)
 
 -- no supercritical member: there is no root
@@ -40,27 +40,27 @@ pub no-radicand : (x p u root : ℕ) → p ≡ 0 → _≡_ {A = ℕ} 0 (x * p * 
 no-radicand x p u root e = rw e (omega arith)
 
 -- bounds of the divisors
-square-bound : (x y : ℕ) → x ≤ 150_000_000 → y ≤ 150_000_000 → x * y ≤ 150_000_000 * 150_000_000
-square-bound x y hx hy = mul-le-mul {n₂ = 150_000_000} {m₂ = 150_000_000} hx hy
+square-bound : (x y : ℕ) → x ≤ largestGross → y ≤ largestGross → x * y ≤ largestGross * largestGross
+square-bound x y hx hy = mul-le-mul {n₂ = largestGross} {m₂ = largestGross} hx hy
 
-incidence-den-bound : (l : Legs) (S e : ℕ) → S + e ≤ 150_000_000 → incidenceDen l S e ≤ 2 ^ 63
+incidence-den-bound : (l : Legs) (S e : ℕ) → S + e ≤ largestGross → incidenceDen l S e ≤ 2 ^ 63
 unfolding incidenceDen
 incidence-den-bound Four S e h = omega (arith, square-bound S (S + e) (omega arith) h)
 incidence-den-bound Three S e h = omega arith
 
-face-den-bound : (l : Legs) (U : ℕ) → U ≤ 150_000_000 → faceDen l U ≤ 2 ^ 67
+face-den-bound : (l : Legs) (U : ℕ) → U ≤ largestGross → faceDen l U ≤ 2 ^ 67
 unfolding faceDen
 face-den-bound Four U h = omega (arith, square-bound U U h h)
 face-den-bound Three U h = omega (arith, square-bound U U h h)
 
 module _ (l : Legs) (k factor q : ℕ) (a : Areas) (e items : ℕ) where
-  pub num-is : (load inc face h : ℕ) → load ≡ q * factor → inc ≡ incidenceNum l k a e → face ≡ faceNum l a e
+  pub num-is : (factored inc face h : ℕ) → factored ≡ q * factor → inc ≡ incidenceNum l k a e → face ≡ faceNum l a e
       → h ≡ incidenceDen l (solid a .0) e * faceDen l (solid a .0 + e)
-      → load * (inc * face * 1_000_000 + items * h) ≡ wholeForm l k factor q a e items .num
+      → factored * (inc * face * 1_000_000 + items * h) ≡ wholeForm l k factor q a e items .num
   unfolding wholeForm
-  num-is load inc face h el ei ef eh = rw (el, ei, ef, eh)
+  num-is factored inc face h el ei ef eh = rw (el, ei, ef, eh)
 
-  pub num-room : solid a .0 + e ≤ 150_000_000 → q ≤ 5000 → factor ≤ 2000 → items ≤ largestItems
+  pub num-room : solid a .0 + e ≤ largestGross → q ≤ 5000 → factor ≤ 2000 → items ≤ largestItems
       → wholeForm l k factor q a e items .num < 2 ^ 256
   unfolding wholeForm
   num-room hu hq hf hi =
@@ -71,11 +71,11 @@ module _ (l : Legs) (k factor q : ℕ) (a : Areas) (e items : ℕ) where
       lt-of-le-of-lt (le-trans (num-bound l k factor q a e items hu hq hf hi) (mul-le-mul-left (2 ^ 27) d))
       (leb-true (2 ^ 27 * (2 ^ 63 * 2 ^ 67 * 1_000_000_000_000_000) + 1) (2 ^ 256) refl)
 
-  pub radicand-of : (load inc : ℕ) → load ≡ q * factor → inc ≡ incidenceNum l k a e
-      → load * inc * 1_000_000 * a .supercritical .0 * (solid a .0 + e) * (load * inc * 1_000_000 * a .supercritical .0 * (solid a .0 + e)) * rootNum l (solid a .0) e
+  pub radicand-of : (factored inc : ℕ) → factored ≡ q * factor → inc ≡ incidenceNum l k a e
+      → factored * inc * 1_000_000 * a .supercritical .0 * (solid a .0 + e) * (factored * inc * 1_000_000 * a .supercritical .0 * (solid a .0 + e)) * rootNum l (solid a .0) e
       ≡ wholeForm l k factor q a e items .radicand
   unfolding wholeForm
-  radicand-of load inc el ei = rw (el, ei)
+  radicand-of factored inc el ei = rw (el, ei)
 
   pub den-is : (h : ℕ) → h ≡ incidenceDen l (solid a .0) e * faceDen l (solid a .0 + e)
       → h * 1_000_000_000_000_000 ≡ wholeForm l k factor q a e items .den
@@ -93,7 +93,7 @@ module _ (l : Legs) (k factor q : ℕ) (a : Areas) (e items : ℕ) where
     pub den-above : 0 < value256 d
     den-above = rw ed (den-positive l k factor q a e items hs)
 
-    pub most-reaches : solid a .0 + e ≤ 150_000_000 → q ≤ 5000 → factor ≤ 2000 → items ≤ largestItems → reaches (surd n d m) (2 ^ 27) ≡ true
+    pub most-reaches : solid a .0 + e ≤ largestGross → q ≤ 5000 → factor ≤ 2000 → items ≤ largestItems → reaches (surd n d m) (2 ^ 27) ≡ true
     most-reaches hu hq hf hi = rw surd-is (whole-reaches _ (2 ^ 27) (num-bound l k factor q a e items hu hq hf hi))
 
     pub least-exact : (f : ℕ) → Least (number (surd n d m)) f → Least (exact l k factor q (grossOf a e) a items) f

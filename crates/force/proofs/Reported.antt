@@ -5,6 +5,7 @@ use mathlib.Core.Path.{_≡_, refl, ap, sym, subst, _∙_}
 use mathlib.Core.Bool.{true}
 use mathlib.Core.List.{List, List·Permᴰ}
 use native.Mathlib.Omega.{arith}
+use borrow.Author.Tests.{le-leb}
 use lib.ListN.{length, take}
 use Rattle.units.specs.declared.Length.{Length}
 use Rattle.units.specs.declared.Area.{Area}
@@ -16,13 +17,14 @@ use Rattle.model.specs.declared.Section as stored
 use Rattle.model.specs.declared.Item.{Item}
 use Rattle.model.specs.declared.Areas.{Areas}
 use Rattle.model.specs.Tower.{Section, Tower, Wind, sectionOf}
-use Rattle.model.specs.Areas.{thickness, areasOf, solid, gross}
+use Rattle.model.specs.Areas.{thickness, areasOf, solid, solidOf, gross}
 use Rattle.model.specs.Force.{itemSum, exact, exactForce}
 use Rattle.model.specs.Report.{sectionAt, pressureAt, areasAt, exactAt, forceAt}
-use Rattle.model.specs.Valid.{ValidWind}
+use Rattle.model.specs.Valid.{sectionFits, ValidWind}
 use Rattle.model.proofs.Lists.{sumBy-perm}
 use Rattle.model.proofs.ExactForce.{exact-sound, exact-nonneg}
-use Rattle.model.proofs.Forces.{opened, sound-at}
+use Rattle.exact.proofs.Bools.{and-join}
+use Rattle.model.proofs.Forces.{opened, fits-at, ice-at, solid-under, sound-at}
 use Rattle.force.specs.declared.Load.{Load}
 use Rattle.areas.specs.Fits.{fitsUnder}
 use Rattle.force.proofs.Loads.{solid-known}
@@ -41,7 +43,7 @@ module _ (l : Legs) (k : ℕ) (t : Length) (factor : ℕ) (s : stored.Section) (
   solid-in : (0 < solid (areasOf t q (sectionOf s .groups)) .0) × (solid (areasOf t q (sectionOf s .groups)) .0 ≤ gross (sectionOf s) .0)
   solid-in = solid-known t q s h (areasOf t q (sectionOf s .groups)) (gross (sectionOf s)) refl refl
 
-  force-sound : Sound (exactForce l k t factor (sectionOf s) q items)
+  pub force-sound : Sound (exactForce l k t factor (sectionOf s) q items)
   unfolding exactForce
   force-sound = exact-sound l k factor q _ _ items (omega (arith, solid-in)) (solid-in .0)
 
@@ -70,12 +72,22 @@ module _ (l : Legs) (k : ℕ) (t : Length) (factor q i : ℕ) (s s′ : stored.S
       let g : Least (exactForce l k t factor (sectionOf s′) q m) (r .force .0) = rw (← e, ← sum-same a b) (c .1) in
       (c .0 ∙ ap (λ (x : Section). areasOf t q (x .groups)) e ∙ sym (d .0), least-unique g (d .1))
 
--- it is the force that the report shows
+-- a section of a valid tower fits under the ice of a wind that the tower takes, and it is the force that the report shows
 module _ (t : Tower) (w : Wind) (v : ValidWind t w) (i : ℕ) (h : i < length (t .sections)) (s : stored.Section) (e : sectionOf s ≡ sectionAt t i) where
-  pub load-reported : {r : Load}
-      → Loaded (t .legs) (w .direction) (thickness (w .ice)) (w .factor) s (pressureAt w i) (itemSum (thickness (w .ice)) i (t .items)) r
+  pub valid-fits : s .count ≤ 8 → fitsUnder (thickness (w .ice)) s ≡ true
+  unfolding fitsUnder
+  valid-fits c =
+      let f : sectionFits (sectionOf s) ≡ true =
+      subst (λ (x : Section). sectionFits x ≡ true) (sym e) (fits-at t w v i h) in
+      let g : solidOf (thickness (w .ice)) (sectionOf s .groups) .0 ≤ gross (sectionOf s) .0 =
+      subst (λ (x : Section). solidOf (thickness (w .ice)) (x .groups) .0 ≤ gross x .0) (sym e) (solid-under t w v i h) in
+      and-join (le-leb _ 50 (ice-at t w v i h)) (and-join (le-leb _ 8 c) (and-join f (le-leb _ _ g)))
+
+  pub load-reported : (xs : List Item) (held : ℕ) {n : ℕ} {r : Load} → take held xs ≡ t .items → Summed (thickness (w .ice)) i xs held n
+      → Loaded (t .legs) (w .direction) (thickness (w .ice)) (w .factor) s (pressureAt w i) n r
       → (r .areas ≡ areasAt t w i) × (r .force ≡ forceAt t w i)
   unfolding areasAt exactAt forceAt
-  load-reported {r} p =
-      let g : Least (exactAt t w i) (r .force .0) = rw (← e) (p .1) in
+  load-reported xs held {n} {r} ei q p =
+      let k : n ≡ itemSum (thickness (w .ice)) i (t .items) = q .0 ∙ ap (itemSum (thickness (w .ice)) i) ei in
+      let g : Least (exactAt t w i) (r .force .0) = rw (← e, ← k) (p .1) in
       (rw (← e) (p .0), ap (λ (n : ℕ). record { 0 = n }) (least-unique g (ceiling-least (exactAt t w i) (sound-at t w v i h .rational))))

@@ -1,7 +1,7 @@
 // The coefficients of a face, as whole numbers over `faceDen` of model/specs/WholeForm. s is A_S and e the open area A_u − A_S.
 ghost use mathlib.Core.Path.{_≡_};
 ghost use Prim.Native.Nat.{_+_, _*_, _^_, _<_, _≤_};
-ghost use Rattle.model.specs.Areas.{solid};
+ghost use Rattle.model.specs.Areas.{solid, largestGross};
 ghost use Rattle.model.specs.declared.Legs.the-variants.{Three, Four};
 ghost use Rattle.model.specs.WholeForm.{incidenceDen, faceDen, flatNum, subcriticalNum, supercriticalNum, faceNum, rootNum};
 ghost use Rattle.wide.specs.Value.{value128};
@@ -9,7 +9,7 @@ use model::Areas;
 use model::Legs;
 use wide::U128;
 
-// What stands under the root of c_p, in two factors.
+// What stands under the root of c_p, times (faceDen / A_u)², in two factors.
 pub struct Root {
     pub open: u64,
     pub linear: u64,
@@ -17,7 +17,7 @@ pub struct Root {
 
 // a s² + b s e + c e²
 fn quadratic(a: u64, b: u64, c: u64, s: u64, e: u64) -> u64
-    requires { ⌜ (a ≤ 403) × (b ≤ 403) × (c ≤ 403) × (s + e ≤ 150_000_000) ⌝ }
+    requires { ⌜ (a ≤ 403) × (b ≤ 403) × (c ≤ 403) × (s + e ≤ largestGross) ⌝ }
     ensures { λ r. ⌜ r ≡ a * (s * s) + b * (s * e) + c * (e * e) ⌝ }
 {
     a * (s * s) + b * (s * e) + c * (e * e)
@@ -36,7 +36,7 @@ fn three_products(x: u64, x1: u64, y: u64, y1: u64, z: u64, z1: u64) -> U128
 
 // c_f A_f + c_c A_c + 1.9 A_p on four legs
 fn face_four(f: u64, c: u64, p: u64, e: u64) -> U128
-    requires { ⌜ f + c + p + e ≤ 150_000_000 ⌝ }
+    requires { ⌜ f + c + p + e ≤ largestGross ⌝ }
     ensures { λ r. ⌜ value128 r ≡ flatNum Four (f + c + p) e * f + subcriticalNum Four (f + c + p) e * c + supercriticalNum Four (f + c + p + e) * p ⌝ }
 {
     let s = f + c + p;
@@ -48,7 +48,7 @@ fn face_four(f: u64, c: u64, p: u64, e: u64) -> U128
 
 // and on three
 fn face_three(f: u64, c: u64, p: u64, e: u64) -> U128
-    requires { ⌜ f + c + p + e ≤ 150_000_000 ⌝ }
+    requires { ⌜ f + c + p + e ≤ largestGross ⌝ }
     ensures { λ r. ⌜ value128 r ≡ flatNum Three (f + c + p) e * f + subcriticalNum Three (f + c + p) e * c + supercriticalNum Three (f + c + p + e) * p ⌝ }
 {
     let s = f + c + p;
@@ -59,7 +59,7 @@ fn face_three(f: u64, c: u64, p: u64, e: u64) -> U128
 }
 
 pub(crate) fn face_num(legs: Legs, a: Areas, e: u64) -> U128
-    requires { ⌜ solid a .0 + e ≤ 150_000_000 ⌝ }
+    requires { ⌜ solid a .0 + e ≤ largestGross ⌝ }
     ensures { λ r. ⌜ value128 r ≡ faceNum legs a e ⌝ }
 {
     let f = a.flat.0;
@@ -73,18 +73,19 @@ pub(crate) fn face_num(legs: Legs, a: Areas, e: u64) -> U128
 
 // What Kθ and the coefficients together are divided by.
 pub(crate) fn divisor(legs: Legs, s: u64, e: u64) -> U128
-    requires { ⌜ s + e ≤ 150_000_000 ⌝ }
+    requires { ⌜ s + e ≤ largestGross ⌝ }
     ensures { λ r. ⌜ value128 r ≡ incidenceDen legs s e * faceDen legs (s + e) ⌝ }
 {
     let u = s + e;
     match legs {
         Legs::Four => wide::product::mul64(400 * s * u, 200 * (u * u)),
+        // 20 s · 5000 u², so shared out that both factors fit a word
         Legs::Three => wide::product::mul64(20 * s * u, 5000 * u),
     }
 }
 
 pub(crate) fn root_num(legs: Legs, s: u64, e: u64) -> Root
-    requires { ⌜ s + e ≤ 150_000_000 ⌝ }
+    requires { ⌜ s + e ≤ largestGross ⌝ }
     ensures { λ r. ⌜ r .open * r .linear ≡ rootNum legs s e ⌝ }
 {
     match legs {

@@ -1,7 +1,7 @@
 // Kθ: the wind incidence factor, as a whole number over `incidenceDen` of model/specs/WholeForm.
 ghost use mathlib.Core.Path.{_≡_};
 ghost use Prim.Native.Nat.{_+_, _*_, _<_, _≤_};
-ghost use Rattle.model.specs.Areas.{solid};
+ghost use Rattle.model.specs.Areas.{solid, largestGross};
 ghost use Rattle.model.specs.Force.{quarters, halves};
 ghost use Rattle.model.specs.WholeForm.{k2Num, incidenceNum};
 use model::Areas;
@@ -35,7 +35,7 @@ fn halves(k: u32) -> u64
 
 // 5 A_u K2, where e is A_u − A_S
 fn k2_num(s: u64, e: u64) -> u64
-    requires { ⌜ s + e ≤ 150_000_000 ⌝ }
+    requires { ⌜ s + e ≤ largestGross ⌝ }
     ensures { λ r. ⌜ (r ≡ k2Num s e) × (r ≤ 750_000_000) ⌝ }
 {
     if 4 * s <= e {
@@ -49,7 +49,7 @@ fn k2_num(s: u64, e: u64) -> u64
 
 // Kθ of four legs: f flat, r round
 fn incidence_four(k: u32, f: u64, r: u64, e: u64) -> u64
-    requires { ⌜ f + r + e ≤ 150_000_000 ⌝ }
+    requires { ⌜ f + r + e ≤ largestGross ⌝ }
     ensures { λ n. ⌜ n ≡ 400 * (f + r) * (f + r + e) + (11 * f + 16 * r) * k2Num (f + r) e * quarters k ⌝ }
 {
     let s = f + r;
@@ -57,7 +57,7 @@ fn incidence_four(k: u32, f: u64, r: u64, e: u64) -> u64
 }
 
 pub(crate) fn incidence_num(legs: Legs, k: u32, a: Areas, e: u64) -> u64
-    requires { ⌜ solid a .0 + e ≤ 150_000_000 ⌝ }
+    requires { ⌜ solid a .0 + e ≤ largestGross ⌝ }
     ensures { λ n. ⌜ n ≡ incidenceNum legs k a e ⌝ }
 {
     let f = a.flat.0;

@@ -2,13 +2,14 @@
 ghost use mathlib.Core.Path.{_≡_};
 ghost use Prim.Native.Nat.{_+_, _*_, _^_, _<_, _≤_};
 ghost use Rattle.exact.specs.Number.{Least};
-ghost use Rattle.model.specs.Areas.{solid};
+ghost use Rattle.model.specs.Areas.{solid, largestGross};
 ghost use Rattle.model.specs.Force.{largestItems, exact};
 ghost use Rattle.model.specs.WholeForm.{grossOf, incidenceDen, incidenceNum, faceDen, faceNum, rootNum};
 ghost use Rattle.wide.specs.Value.{value128, value256, value512};
 use crate::face::Root;
 use model::Areas;
 use model::Legs;
+use units::Area;
 use units::Force;
 use wide::U128;
 use wide::U256;
@@ -17,13 +18,14 @@ use wide::U512;
 // No exact force is above 2²⁷ N.
 const MOST: u64 = 0x800_0000;
 
-// load · (incidence · face · 10⁶ + items · divisor)
-fn numerator(load: u64, incidence: u64, face: U128, items: u64, divisor: U128) -> U256
-    requires { ⌜ (load ≤ 10_000_000) × (load * (incidence * value128 face * 1_000_000 + items * value128 divisor) < 2 ^ 256) ⌝ }
-    ensures { λ r. ⌜ value256 r ≡ load * (incidence * value128 face * 1_000_000 + items * value128 divisor) ⌝ }
+// `factored` is the factored pressure q times structure factor, in thousandths of N/m².
+// factored · (incidence · face · 10⁶ + items · divisor)
+fn numerator(factored: u64, incidence: u64, face: U128, items: u64, divisor: U128) -> U256
+    requires { ⌜ (factored ≤ 10_000_000) × (factored * (incidence * value128 face * 1_000_000 + items * value128 divisor) < 2 ^ 256) ⌝ }
+    ensures { λ r. ⌜ value256 r ≡ factored * (incidence * value128 face * 1_000_000 + items * value128 divisor) ⌝ }
 {
-    let x = wide::product::mul192(wide::product::mul128(face, incidence), load * 1_000_000);
-    let y = wide::product::mul192(wide::product::mul128(divisor, items), load);
+    let x = wide::product::mul192(wide::product::mul128(face, incidence), factored * 1_000_000);
+    let y = wide::product::mul192(wide::product::mul128(divisor, items), factored);
     wide::product::add256(x, y)
 }
 
@@ -33,12 +35,12 @@ fn denominator(divisor: U128) -> U256
     wide::product::widen192(wide::product::mul128(divisor, 1_000_000_000_000_000))
 }
 
-// (load · incidence · 10⁶ · p · u)² · root, where p is A_p and u is A_u
-fn radicand(load: u64, incidence: u64, p: u64, u: u64, root: Root) -> U512
-    requires { ⌜ (load ≤ 10_000_000) × (p ≤ 150_000_000) × (u ≤ 150_000_000) ⌝ }
-    ensures { λ r. ⌜ value512 r ≡ (load * incidence * 1_000_000 * p * u) * (load * incidence * 1_000_000 * p * u) * (root .open * root .linear) ⌝ }
+// (factored · incidence · 10⁶ · p · u)² · root, where p is A_p and u is A_u
+fn supercritical_radicand(factored: u64, incidence: u64, p: u64, u: u64, root: Root) -> U512
+    requires { ⌜ (factored ≤ 10_000_000) × (p ≤ largestGross) × (u ≤ largestGross) ⌝ }
+    ensures { λ r. ⌜ value512 r ≡ (factored * incidence * 1_000_000 * p * u) * (factored * incidence * 1_000_000 * p * u) * (root .open * root .linear) ⌝ }
 {
-    let r = wide::product::mul128(wide::product::mul64(load * 1_000_000, p * u), incidence);
+    let r = wide::product::mul128(wide::product::mul64(factored * 1_000_000, p * u), incidence);
     let x = wide::product::mul192(r, root.open);
     let y = wide::product::mul192(r, root.linear);
     wide::product::product256(x, y)
@@ -52,7 +54,7 @@ struct Terms {
 }
 
 fn terms_of(legs: Legs, k: u32, a: Areas, e: u64) -> Terms
-    requires { ⌜ solid a .0 + e ≤ 150_000_000 ⌝ }
+    requires { ⌜ solid a .0 + e ≤ largestGross ⌝ }
     ensures { λ r. ⌜ (r .incidence ≡ incidenceNum legs k a e) × (value128 (r .face) ≡ faceNum legs a e) × (value128 (r .divisor) ≡ incidenceDen legs (solid a .0) e * faceDen legs (solid a .0 + e)) ⌝ }
 {
     let s = a.flat.0 + a.subcritical.0 + a.supercritical.0;
@@ -67,35 +69,42 @@ fn terms_of(legs: Legs, k: u32, a: Areas, e: u64) -> Terms
 }
 
 // The radicand; there is none to work out without supercritical members.
-fn root_part(legs: Legs, load: u64, incidence: u64, a: Areas, e: u64) -> U512
-    requires { ⌜ (load ≤ 10_000_000) × (solid a .0 + e ≤ 150_000_000) ⌝ }
-    ensures { λ r. ⌜ value512 r ≡ (load * incidence * 1_000_000 * a .supercritical .0 * (solid a .0 + e)) * (load * incidence * 1_000_000 * a .supercritical .0 * (solid a .0 + e)) * rootNum legs (solid a .0) e ⌝ }
+fn radicand(legs: Legs, factored: u64, incidence: u64, a: Areas, e: u64) -> U512
+    requires { ⌜ (factored ≤ 10_000_000) × (solid a .0 + e ≤ largestGross) ⌝ }
+    ensures { λ r. ⌜ value512 r ≡ (factored * incidence * 1_000_000 * a .supercritical .0 * (solid a .0 + e)) * (factored * incidence * 1_000_000 * a .supercritical .0 * (solid a .0 + e)) * rootNum legs (solid a .0) e ⌝ }
 {
     let p = a.supercritical.0;
     if p == 0 {
         return wide::product::zero512();
     }
     let s = a.flat.0 + a.subcritical.0 + p;
-    radicand(load, incidence, p, s + e, crate::face::root_num(legs, s, e))
+    supercritical_radicand(
+        factored,
+        incidence,
+        p,
+        s + e,
+        crate::face::root_num(legs, s, e),
+    )
 }
 
-// A_u is A_S + e.
+// `gap` is the open area A_u − A_S.
 pub(crate) fn least_force(
     legs: Legs,
     k: u32,
     factor: u32,
     q: u16,
     a: Areas,
-    e: u64,
+    gap: Area,
     items: u64,
 ) -> Force
-    requires { ⌜ (0 < solid a .0) × (solid a .0 + e ≤ 150_000_000) × (factor ≤ 2000) × (q ≤ 5000) × (items ≤ largestItems) ⌝ }
-    ensures { λ r. ⌜ Least (exact legs k factor q (grossOf a e) a items) (r .0) ⌝ }
+    requires { ⌜ (0 < solid a .0) × (solid a .0 + gap .0 ≤ largestGross) × (factor ≤ 2000) × (q ≤ 5000) × (items ≤ largestItems) ⌝ }
+    ensures { λ r. ⌜ Least (exact legs k factor q (grossOf a (gap .0)) a items) (r .0) ⌝ }
 {
-    let load = (q as u64) * (factor as u64);
+    let e = gap.0;
+    let factored = (q as u64) * (factor as u64);
     let x = terms_of(legs, k, a, e);
-    let n = numerator(load, x.incidence, x.face, items, x.divisor);
+    let n = numerator(factored, x.incidence, x.face, items, x.divisor);
     let d = denominator(x.divisor);
-    let m = root_part(legs, load, x.incidence, a, e);
+    let m = radicand(legs, factored, x.incidence, a, e);
     Force(wide::ceiling::ceiling(n, d, m, MOST))
 }

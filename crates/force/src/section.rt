@@ -10,6 +10,7 @@ ghost use Rattle.areas.specs.Fits.{fitsUnder};
 use crate::Load;
 use model::Legs;
 use model::Section;
+use units::Area;
 use units::Length;
 
 // Direction k, ice of thickness t, pressure q; `items` is the sum of the section's items. The force is the least whole number of
@@ -29,6 +30,7 @@ pub fn section_load(
     let areas = areas::section::section_areas(t, q, s);
     let gross = areas::section::gross_area(s);
     let solid = areas::section::solid_area(areas);
-    let force = crate::least::least_force(legs, k, factor, q, areas, gross.0 - solid.0, items);
+    let gap = Area(gross.0 - solid.0);
+    let force = crate::least::least_force(legs, k, factor, q, areas, gap, items);
     Load { areas, force }
 }

@@ -1,22 +1,25 @@
 // Many section forces in one call, for a benchmark.
+ghost use mathlib.Core.Path.{_≡_};
+ghost use Prim.Native.Nat.{_≤_};
+ghost use Rattle.model.specs.Force.{largestItems};
+ghost use Rattle.case_words.specs.Faults.{SoundCase};
+ghost use Rattle.force_bench.specs.Words.{totalOf, benchOf};
+use areas::section::thickness;
 use case_words::Case;
 use case_words::Fault;
 use case_words::case_of;
 use case_words::faults::fault_of;
 use case_words::faults::groups_end;
 use case_words::faults::legs_of;
-use case_words::faults::thickness;
 use force::section::section_load;
-ghost use mathlib.Core.Path.{_≡_};
-ghost use mathlib.Core.Bool.{false};
-ghost use Prim.Native.Nat.{_-_, _^_, _≤_};
-ghost use Rattle.model.specs.Force.{largestItems};
-ghost use Rattle.case_words.specs.Faults.{faultOf};
-ghost use Rattle.force_bench.specs.Words.{isTimed};
+
+// The largest sum of a section's items: 64 times coefficient 3, K 1 and 31 m².
+const LARGEST_ITEMS: u64 = 64 * 3000 * 1000 * 31_000_000;
 
 // The forces of so many rounds, modulo 2^64. Round i has the case's pressure less i % 16.
 fn total(c: Case, items: u64, rounds: u64) -> u64
-    requires { ⌜ (faultOf c ≡ Fault.None) × (15 ≤ c .pressure) × (items ≤ largestItems) ⌝ }
+    requires { ⌜ SoundCase c × (15 ≤ c .pressure) × (items ≤ largestItems) ⌝ }
+    ensures { λ r. ⌜ r ≡ totalOf c items rounds ⌝ }
 {
     let legs = legs_of(c.legs);
     let t = thickness(c.ice);
@@ -30,17 +33,18 @@ fn total(c: Case, items: u64, rounds: u64) -> u64
     sum
 }
 
-// Words are a case's numbers, then the items' sum. u64::MAX for words that are none.
+// Words are a case's numbers, then the items' sum. u64::MAX for words that are no case.
 #[no_mangle]
 pub extern "C" fn force_bench(words: &[u64], rounds: u64) -> u64
-    ensures { λ r. ⌜ (isTimed (now (words .entry)) ≡ false → r ≡ 2 ^ 64 - 1) ⌝ }
+    ensures { λ r. ⌜ r ≡ benchOf (now (words .entry)) rounds ⌝ }
 {
     let c = case_of(words);
-    let fault = fault_of(c);
+    let fault = fault_of(c, words.len());
     let Fault::None = fault else {
         return u64::MAX;
     };
-    let end = groups_end(c);
+    let s = c.section;
+    let end = groups_end(s);
     if words.len() != end + 1 {
         return u64::MAX;
     }
@@ -48,7 +52,7 @@ pub extern "C" fn force_bench(words: &[u64], rounds: u64) -> u64
         return u64::MAX;
     }
     let items = words[end];
-    if 64 * 3000 * 1000 * 31_000_000 < items {
+    if LARGEST_ITEMS < items {
         return u64::MAX;
     }
     total(c, items, rounds)

@@ -1,39 +1,50 @@
 -- Decimal numbers, read digit by digit.
-use Prim.Native.Nat.{ℕ, suc, _+_, _-_, _*_, _≤_, _<_}
-use mathlib.Core.Path.{_≡_, refl}
-use mathlib.Core.Bool.{Bool, true, false, cond}
+use Prim.Native.Nat.{ℕ, suc, _+_, _-_, _*_, _^_, _≤_, _<_}
+use mathlib.Core.Path.{_≡_}
+use mathlib.Core.Bool.{true}
 use mathlib.Core.List.{List}
 use native.Mathlib.Omega.{arith}
-use lib.Dec.{eqb}
+use lib.Dec.{leb}
 use lib.ListN.{length, getD}
-use borrow.Author.Tests.{le-leb, eqb-false}
-use Rattle.force_cases.specs.declared.Number.{Number}
-use Rattle.force_cases.specs.declared.Number.the-variants.{At, Bad}
-use Rattle.force_cases.specs.Numbers.{digitsAt, valueAt, Spelled, endedAt, ReadAt}
+use borrow.Author.Tests.{leb-true}
+use Rattle.exact.proofs.Bools.{and-split}
+use Rattle.force_cases.specs.Numbers.{isDigit, digitsAt, valueAt, Spelled}
+
+pub record DigitFacts (b : ℕ) : Type 0 where
+  pub low : 48 ≤ b
+  pub high : b ≤ 57
+
+pub digit-facts : (b : ℕ) → isDigit b ≡ true → DigitFacts b
+digit-facts b h =
+    let a : _ = and-split (leb 48 b) (leb b 57) h in
+    record { low = leb-true _ _ (a .0); high = leb-true _ _ (a .1) }
 
 module _ (s : List ℕ) (p : ℕ) where
-  pub spelled-none : p ≤ length s → Spelled s p 0 p
+  pub spelled-one : (n : ℕ) → p < length s → isDigit (getD s p 0) ≡ true → n ≡ getD s p 0 - 48 → Spelled s p n (p + 1)
   unfolding digitsAt valueAt
-  spelled-none h =
-      let e : p - p ≡ 0 = omega arith in
-      record { start = omega arith; inside = h; digits = rw e; value = rw e }
-
-  pub spelled-more : (n i d : ℕ) → Spelled s p n i → i < length s → 48 ≤ getD s i 0 → getD s i 0 ≤ 57 → d ≡ getD s i 0 - 48
-      → Spelled s p (n * 10 + d) (i + 1)
-  unfolding digitsAt valueAt
-  spelled-more n i d k h low high e =
-      let a : i + 1 - p ≡ suc (i - p) = omega arith in
-      let b : p + (i - p) ≡ i = omega arith in
+  spelled-one n h d e =
+      let a : p + 1 - p ≡ 1 = omega arith in
+      let b : p + 0 ≡ p = omega arith in
+      let f : DigitFacts (getD s p 0) = digit-facts _ d in
       record {
         start = omega arith;
-        inside = omega arith;
-        digits = rw (a, b, k .digits, le-leb _ _ low, le-leb _ _ high);
-        value = rw (a, b, ← k .value, e);
+        end = omega arith;
+        digits = rw (a, b) d;
+        value = rw (a, b) (omega arith);
+        small = omega arith;
       }
 
-  ended-cases : (n i : ℕ) → Spelled s p n i → (b : Bool) → eqb i p ≡ b → ReadAt s p (cond b Bad (At n i))
-  ended-cases n i k true h = tt
-  ended-cases n i k false h = (omega (arith, eqb-false i p h), k)
-
-  pub read-ended : (n i : ℕ) (r : Number) → Spelled s p n i → r ≡ endedAt n p i → ReadAt s p r
-  read-ended n i r k e = rw e (ended-cases n i k (eqb i p) refl)
+  pub spelled-more : (n i d : ℕ) → Spelled s p n i → i < length s → n < 10 ^ 18 → isDigit (getD s i 0) ≡ true → d ≡ getD s i 0 - 48
+      → Spelled s p (n * 10 + d) (i + 1)
+  unfolding digitsAt valueAt
+  spelled-more n i d k h small g e =
+      let a : i + 1 - p ≡ suc (i - p) = omega arith in
+      let b : p + (i - p) ≡ i = omega arith in
+      let f : DigitFacts (getD s i 0) = digit-facts _ g in
+      record {
+        start = omega arith;
+        end = omega arith;
+        digits = rw (a, b, k .digits, g);
+        value = rw (a, b, ← k .value, e);
+        small = omega arith;
+      }

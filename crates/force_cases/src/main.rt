@@ -1,67 +1,60 @@
-// Reads cases from standard input, one a line, and prints for each its areas, the items' sum and the force. A line is LEGS K ICE FACTOR
-// PRESSURE WIDTH HEIGHT GROUPCOUNT (KIND SIZE LENGTH)* ITEMCOUNT (SECTION WIDTH LENGTH BARE ICED POSITION)*.
+// Reads cases from standard input, one a line, and prints for each its areas, the items' sum and the force, or what is wrong with it first.
+// A line is LEGS K ICE FACTOR PRESSURE WIDTH HEIGHT GROUPCOUNT (KIND SIZE LENGTH)* ITEMCOUNT (SECTION WIDTH LENGTH BARE ICED POSITION)*.
+// The case's section is number 0: items on other sections do not count.
 mod numbers;
 mod text;
 
-use areas::items::item_sum;
-use areas::ranges::items_fit;
-use case_words::Case;
-use case_words::Fault;
-use case_words::case_of;
-use case_words::faults::fault_of;
-use case_words::faults::groups_end;
-use case_words::faults::legs_of;
-use case_words::faults::thickness;
-use case_words::items::items_of;
-use force::Load;
-use force::section::section_load;
-use libc::STDIN_FILENO;
-use libc::STDOUT_FILENO;
-use model::Item;
-use text::put;
-use text::put_bytes;
-use text::put_number;
 ghost use Prim.Native.Nat.{_≤_};
 ghost use mathlib.Core.Path.{_≡_};
 ghost use mathlib.Core.Bool.{true};
 ghost use lib.ListN.{length, take};
 ghost use Rattle.model.specs.Lists.{allOf};
 ghost use Rattle.model.specs.File.{fieldsInRange};
-ghost use Rattle.case_words.specs.Faults.{faultOf};
+ghost use Rattle.case_words.specs.Faults.{SoundCase};
+use crate::text::put;
+use crate::text::put_bytes;
+use crate::text::put_number;
+use areas::items::item_sum;
+use areas::ranges::items_fit;
+use areas::section::thickness;
+use case_words::Case;
+use case_words::Fault;
+use case_words::case_of;
+use case_words::faults::fault_of;
+use case_words::faults::groups_end;
+use case_words::faults::legs_of;
+use case_words::items::items_of;
+use force::Load;
+use force::section::section_load;
+use libc::STDIN_FILENO;
+use libc::STDOUT_FILENO;
+use model::Item;
 
-// A number and the place after it.
+// What a line holds at most: 8 numbers, those of 8 groups, the number of items and those of 64 items.
+const MOST_NUMBERS: usize = 8 + 3 * 8 + 1 + 6 * 64;
+
+// A number, which is below 10^19, and the place after it.
 enum Number {
     At(u64, usize),
-    Bad,
+    Large,
 }
 
-// How many numbers a line has.
+// How many numbers a line has, or what is wrong with it first: it is no run of numbers with single spaces, one is too large, or they are
+// too many.
 enum Count {
     Of(usize),
     Bad,
+    Large,
+    Many,
 }
 
-// Each of the functions below puts a line into out and answers its length.
+// Each function from here to `answer` puts a line of output into out and answers its length.
 fn refuse(out: &mut [u8], why: &[u8]) -> usize
     ensures { λ r. ⌜ r ≤ length (now (out .entry)) ⌝ }
 {
     let at = put_bytes(out, 0, b"error: ");
     let at = put_bytes(out, at, why);
     put(out, at, b'\n')
-}
-
-fn refuse_case(out: &mut [u8], fault: Fault) -> usize
-    ensures { λ r. ⌜ r ≤ length (now (out .entry)) ⌝ }
-{
-    match fault {
-        Fault::None => refuse(out, b"nothing is wrong"),
-        Fault::Legs => refuse(out, b"legs are not 3 or 4"),
-        Fault::Direction => refuse(out, b"k is above 23, or odd with three legs"),
-        Fault::Ice => refuse(out, b"ice is above 5"),
-        Fault::Factor => refuse(out, b"the structure factor is not 500 to 2000"),
-        Fault::Pressure => refuse(out, b"the pressure is above 5000"),
-        Fault::Section => refuse(out, b"the section is out of range"),
-    }
 }
 
 fn put_load(out: &mut [u8], load: Load, items: u64) -> usize
@@ -75,7 +68,7 @@ fn put_load(out: &mut [u8], load: Load, items: u64) -> usize
 }
 
 fn answer_case(c: Case, items: [Item; 64], held: usize, out: &mut [u8]) -> usize
-    requires { ⌜ (faultOf c ≡ Fault.None) × (held ≤ 64) × (allOf fieldsInRange (take held items) ≡ true) ⌝ }
+    requires { ⌜ SoundCase c × (held ≤ 64) × (allOf fieldsInRange (take held items) ≡ true) ⌝ }
     ensures { λ r. ⌜ r ≤ length (now (out .entry)) ⌝ }
 {
     let t = thickness(c.ice);
@@ -86,11 +79,13 @@ fn answer_case(c: Case, items: [Item; 64], held: usize, out: &mut [u8]) -> usize
     put_load(out, load, sum)
 }
 
-// The items of a case, whose count stands at `end`.
-fn answer_items(c: Case, numbers: &[u64], end: usize, out: &mut [u8]) -> usize
-    requires { ⌜ (faultOf c ≡ Fault.None) × (end ≤ 32) ⌝ }
+// The items' count stands after the groups.
+fn answer_items(c: Case, numbers: &[u64], out: &mut [u8]) -> usize
+    requires { ⌜ SoundCase c ⌝ }
     ensures { λ r. ⌜ r ≤ length (now (out .entry)) ⌝ }
 {
+    let s = c.section;
+    let end = groups_end(s);
     if numbers.len() <= end {
         return refuse(out, b"numbers are missing");
     }
@@ -99,8 +94,12 @@ fn answer_items(c: Case, numbers: &[u64], end: usize, out: &mut [u8]) -> usize
         return refuse(out, b"there are more than 64 items");
     }
     let held = held as usize;
-    if numbers.len() != end + 1 + 6 * held {
-        return refuse(out, b"there are not as many numbers as the counts say");
+    let all = end + 1 + 6 * held;
+    if numbers.len() < all {
+        return refuse(out, b"numbers are missing");
+    }
+    if all < numbers.len() {
+        return refuse(out, b"numbers are left over");
     }
     let items = items_of(numbers, end + 1);
     if !items_fit(items, held) {
@@ -112,29 +111,35 @@ fn answer_items(c: Case, numbers: &[u64], end: usize, out: &mut [u8]) -> usize
 fn answer_numbers(numbers: &[u64], out: &mut [u8]) -> usize
     ensures { λ r. ⌜ r ≤ length (now (out .entry)) ⌝ }
 {
-    if numbers.len() < 8 {
-        return refuse(out, b"numbers are missing");
-    }
     let c = case_of(numbers);
-    let fault = fault_of(c);
-    let Fault::None = fault else {
-        return refuse_case(out, fault);
-    };
-    let end = groups_end(c);
-    answer_items(c, numbers, end, out)
+    let fault = fault_of(c, numbers.len());
+    match fault {
+        Fault::None => answer_items(c, numbers, out),
+        Fault::Missing => refuse(out, b"numbers are missing"),
+        Fault::Legs => refuse(out, b"legs are neither 3 nor 4"),
+        Fault::Direction => refuse(out, b"k is above 23, or odd with three legs"),
+        Fault::Ice => refuse(out, b"the ice class is above 5"),
+        Fault::Factor => refuse(out, b"the structure factor is not 500 to 2000"),
+        Fault::Pressure => refuse(out, b"the pressure is above 5000"),
+        Fault::Sizes => refuse(
+            out,
+            b"the width, the height or the number of groups is out of range, or the height is odd",
+        ),
+        Fault::Groups => refuse(out, b"a kind, size or length of a group is out of range"),
+        Fault::Solidity => refuse(out, b"A_S is above A_u"),
+    }
 }
 
 fn answer(line: &[u8], numbers: &mut [u64], out: &mut [u8]) -> usize
     ensures { λ r. ⌜ r ≤ length (now (out .entry)) ⌝ }
 {
     let count = numbers::numbers_of(line, numbers);
-    let Count::Of(n) = count else {
-        return refuse(
-            out,
-            b"not numbers with single spaces between them, or one is too large, or they are too many",
-        );
-    };
-    answer_numbers(&numbers[0..n], out)
+    match count {
+        Count::Of(n) => answer_numbers(&numbers[0..n], out),
+        Count::Bad => refuse(out, b"not decimal numbers with single spaces between them"),
+        Count::Large => refuse(out, b"a number is too large"),
+        Count::Many => refuse(out, b"there are too many numbers"),
+    }
 }
 
 fn answer_all(text: &[u8], numbers: &mut [u64], out: &mut [u8]) {
@@ -155,7 +160,7 @@ fn main() {
         io::write_all(STDOUT_FILENO, b"error: the input is too long\n");
         return;
     }
-    let mut numbers = [0u64; 417];
+    let mut numbers = [0u64; MOST_NUMBERS];
     let mut out = [0u8; 256];
     answer_all(&text[..n], &mut numbers, &mut out);
 }

@@ -13,7 +13,7 @@ use Rattle.exact.proofs.Surds.{number-sound, from-over}
 use Rattle.model.specs.declared.Legs.{Legs}
 use Rattle.model.specs.declared.Legs.the-variants.{Three, Four}
 use Rattle.model.specs.declared.Areas.{Areas}
-use Rattle.model.specs.Areas.{solid}
+use Rattle.model.specs.Areas.{solid, largestGross}
 use Rattle.model.specs.Force.{halves, largestItems, exact}
 use Rattle.model.specs.WholeForm.{grossOf, k2Num, rounds, incidenceDen, incidenceNum, faceDen, flatNum, subcriticalNum, supercriticalNum, faceNum, wholeForm}
 use Rattle.model.proofs.Coefficients.{quarters-bound}
@@ -77,19 +77,19 @@ face-bound l a e =
     shares (flatNum l (solid a .0) e) (subcriticalNum l (solid a .0) e) (supercriticalNum l (solid a .0 + e)) _ _ _ _ (solid a .0)
     (flat-bound l (solid a .0) e) (sub-bound l (solid a .0) e) (super-bound l (solid a .0 + e)) (solid-is a)
 
-largest : (t turn f face S h items load : ℕ) → turn ≤ 2 * t → face ≤ 4 * f * S → h ≡ t * f → S ≤ 150_000_000 → items ≤ largestItems → load ≤ 10_000_000
+largest : (t turn f face S h items load : ℕ) → turn ≤ 2 * t → face ≤ 4 * f * S → h ≡ t * f → S ≤ largestGross → items ≤ largestItems → load ≤ 10_000_000
     → load * (turn * face * 1_000_000 + items * h) ≤ 2 ^ 27 * (h * 1_000_000_000_000_000)
 largest t turn f face S h items load ht hf eh hS hi hl =
     let a : turn * face ≤ 2 * t * (4 * f * S) = mul-le-mul ht hf in
     let b : 2 * t * (4 * f * S) ≡ 8 * (t * f * S) = omega arith in
-    let c : t * f * S ≤ t * f * 150_000_000 = mul-le-mul-left (t * f) hS in
+    let c : t * f * S ≤ t * f * largestGross = mul-le-mul-left (t * f) hS in
     let d : items * (t * f) ≤ largestItems * (t * f) = mul-le-mul-right (t * f) hi in
     let x : turn * face * 1_000_000 + items * (t * f) ≤ 7_152_000_000_000_000 * (t * f) = omega arith in
     let y : load * (turn * face * 1_000_000 + items * (t * f)) ≤ 10_000_000 * (7_152_000_000_000_000 * (t * f)) = mul-le-mul hl x in
     rw eh (omega arith)
 
 module _ (l : Legs) (k factor q : ℕ) (a : Areas) (e items : ℕ) where
-  pub num-bound : solid a .0 + e ≤ 150_000_000 → q ≤ 5000 → factor ≤ 2000 → items ≤ largestItems
+  pub num-bound : solid a .0 + e ≤ largestGross → q ≤ 5000 → factor ≤ 2000 → items ≤ largestItems
       → wholeForm l k factor q a e items .num ≤ 2 ^ 27 * wholeForm l k factor q a e items .den
   unfolding wholeForm
   num-bound hu hq hf hi =
@@ -98,7 +98,7 @@ module _ (l : Legs) (k factor q : ℕ) (a : Areas) (e items : ℕ) where
       (incidence-bound l k a e) (face-bound l a e) refl (omega arith) hi load
 
   -- an exact force is at most 2²⁷ newtons
-  pub exact-bound : 0 < solid a .0 → solid a .0 + e ≤ 150_000_000 → q ≤ 5000 → factor ≤ 2000 → items ≤ largestItems
+  pub exact-bound : 0 < solid a .0 → solid a .0 + e ≤ largestGross → q ≤ 5000 → factor ≤ 2000 → items ≤ largestItems
       → AtLeast (exact l k factor q (grossOf a e) a items) (whole (2 ^ 27))
   exact-bound hs hu hq hf hi =
       let d : _ = den-positive l k factor q a e items hs in

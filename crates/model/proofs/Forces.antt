@@ -1,5 +1,5 @@
 -- The exact and the reported force of each section of a valid tower under a valid wind.
-use Prim.Native.Nat.{ℕ, _+_, _*_, _-_, _^_, _≤_, _<_}
+use Prim.Native.Nat.{ℕ, _+_, _-_, _^_, _≤_, _<_}
 use mathlib.Core.Path.{_≡_, refl, ap, subst}
 use mathlib.Core.Bool.{Bool, true, false, cond, not}
 use native.Mathlib.Omega.{arith}
@@ -16,8 +16,8 @@ use Rattle.model.specs.declared.Item.{Item}
 use Rattle.model.specs.Lists.{allOf, anyOf}
 use Rattle.model.specs.Ranges.{within, sectionHeight, itemCount, iceClasses, structureFactor, pressures}
 use Rattle.model.specs.Tower.{Tower, Wind}
-use Rattle.model.specs.Areas.{thickness, gross, solid}
-use Rattle.model.specs.Force.{itemPart, itemSum, largestItems, exact, exactForce}
+use Rattle.model.specs.Areas.{thickness, gross, solidOf, solid, largestGross}
+use Rattle.model.specs.Force.{itemPart, itemSum, largestItem, largestItems, exact, exactForce}
 use Rattle.model.specs.WholeForm.{grossOf}
 use Rattle.model.specs.Report.{noSection, sectionAt, pressureAt, heightAt, areasAt, exactAt, forceAt}
 use Rattle.model.specs.Machine.{refuseIf, directionFits, isTooSolid, windRules}
@@ -65,7 +65,7 @@ wind-facts t w counted next h =
 pub items-bound : (t : Tower) (w : Wind) (i : ℕ) → ValidTower t → w .ice ≤ 5 → itemSum (thickness (w .ice)) i (t .items) ≤ largestItems
 unfolding itemSum
 items-bound t w i v h =
-    let b : ℕ = 3000 * 1000 * 31_000_000 in
+    let b : ℕ = largestItem in
     let one : (it : Item) → itemFits (length (t .sections)) it ≡ true → cond (eqb (it .section) i) (itemPart (thickness (w .ice)) it) 0 ≤ b =
     λ it k.
     cond-bound (eqb (it .section) i)
@@ -84,8 +84,17 @@ module _ (t : Tower) (w : Wind) (v : ValidWind t w) (i : ℕ) (h : i < length (t
   facts : WindFacts t w (eqb (length (w .pressures)) (length (t .sections))) 0
   facts = wind-facts t w _ 0 (v .accepted)
 
+  pub fits-at : sectionFits (sectionAt t i) ≡ true
+  fits-at = all-at sectionFits (t .sections) i noSection h (v .tower .sections)
+
   pub section-at : SectionFacts (sectionAt t i)
-  section-at = section-facts (sectionAt t i) (all-at sectionFits (t .sections) i noSection h (v .tower .sections))
+  section-at = section-facts (sectionAt t i) fits-at
+
+  pub ice-at : thickness (w .ice) .0 ≤ 50
+  ice-at = omega (arith, facts .ice .high)
+
+  pub solid-under : solidOf (thickness (w .ice)) (sectionAt t i .groups) .0 ≤ gross (sectionAt t i) .0
+  solid-under = ltb-false _ _ (none-at (isTooSolid (w .ice)) (t .sections) i noSection h (facts .solid))
 
   pub height-at : InRange sectionHeight (heightAt t i .0)
   unfolding heightAt
@@ -102,7 +111,7 @@ module _ (t : Tower) (w : Wind) (v : ValidWind t w) (i : ℕ) (h : i < length (t
   solid-at =
       rw (solid-of (thickness (w .ice)) (pressureAt w i) (sectionAt t i .groups)) (
         solid-positive _ _ (section-at .count .low) (section-at .groups),
-        ltb-false _ _ (none-at (isTooSolid (w .ice)) (t .sections) i noSection h (facts .solid)),
+        solid-under,
       )
 
   pub sound-at : Sound (exactAt t w i)
@@ -123,7 +132,7 @@ module _ (t : Tower) (w : Wind) (v : ValidWind t w) (i : ℕ) (h : i < length (t
       let a : Areas = areasAt t w i in
       let u : Area = gross (sectionAt t i) in
       let s : solid a .0 ≤ u .0 = solid-at .1 in
-      let g : u .0 ≤ 150_000_000 = gross-bound (sectionAt t i) section-at in
+      let g : u .0 ≤ largestGross = gross-bound (sectionAt t i) section-at in
       subst (λ (x : Area). AtLeast (exact (t .legs) (w .direction) (w .factor) (pressureAt w i) x a (itemSum (thickness (w .ice)) i (t .items))) (whole (2 ^ 27)))
       (opened a u s)
       (exact-bound (t .legs) (w .direction) (w .factor) (pressureAt w i) a (u .0 - solid a .0) _ (solid-at .0) (omega arith) pressure-at

@@ -11,7 +11,7 @@ use Rattle.model.specs.declared.Areas.{Areas}
 use Rattle.model.specs.Lists.{allOf}
 use Rattle.model.specs.Ranges.{sectionCount}
 use Rattle.model.specs.Tower.{Tower, Wind}
-use Rattle.model.specs.Areas.{solid}
+use Rattle.model.specs.Areas.{solid, largestGross}
 use Rattle.model.specs.Report.{sectionAt, areasAt, forceAt, shearAt, momentAt, row, rowAt, rowsTo, rowsOf}
 use Rattle.model.specs.Valid.{ValidWind}
 use Rattle.exact.proofs.Bools.{and-join}
@@ -26,13 +26,13 @@ fits64 n = ltb n (2 ^ 64)
 fit : (n b : ℕ) → n ≤ b → b < 2 ^ 64 → fits64 n ≡ true
 fit n b h g = lt-ltb n (2 ^ 64) (omega arith)
 
-areas-fit : (a : Areas) → solid a .0 ≤ 150_000_000
+areas-fit : (a : Areas) → solid a .0 ≤ largestGross
     → (fits64 (a .flat .0) ≡ true) × (fits64 (a .subcritical .0) ≡ true) × (fits64 (a .supercritical .0) ≡ true)
 unfolding solid
 areas-fit a h = (
-  fit (a .flat .0) 150_000_000 (omega arith) (omega arith),
-  fit (a .subcritical .0) 150_000_000 (omega arith) (omega arith),
-  fit (a .supercritical .0) 150_000_000 (omega arith) (omega arith),
+  fit (a .flat .0) largestGross (omega arith) (omega arith),
+  fit (a .subcritical .0) largestGross (omega arith) (omega arith),
+  fit (a .supercritical .0) largestGross (omega arith) (omega arith),
 )
 
 module _ (t : Tower) (w : Wind) (v : ValidWind t w) where
@@ -40,7 +40,7 @@ module _ (t : Tower) (w : Wind) (v : ValidWind t w) where
   few = in-range sectionCount (length (t .sections)) (v .tower .count) .high
 
   module _ (i : ℕ) (h : i < length (t .sections)) where
-    face : solid (areasAt t w i) .0 ≤ 150_000_000
+    face : solid (areasAt t w i) .0 ≤ largestGross
     face = le-trans (solid-at t w v i h .1) (gross-bound (sectionAt t i) (section-at t w v i h))
 
     shear-fits : fits64 (shearAt t w (i + 1) .0) ≡ true

@@ -14,8 +14,8 @@ use Rattle.model.specs.declared.Item.{Item}
 use Rattle.model.specs.Lists.{sumBy, allOf}
 use Rattle.model.specs.Ranges.{Range, within, sectionWidth, sectionHeight, groupCount, memberSize, memberLength, itemWidth, itemLength, coefficients, positionFactor}
 use Rattle.model.specs.Tower.{Section}
-use Rattle.model.specs.Areas.{sizeOf, groupArea, itemArea, gross, solidOf, bareSolid}
-use Rattle.model.specs.Force.{coefficient, itemPart}
+use Rattle.model.specs.Areas.{sizeOf, groupArea, itemArea, gross, solidOf, bareSolid, largestGross}
+use Rattle.model.specs.Force.{coefficient, itemPart, largestItem}
 use Rattle.model.specs.File.{fieldsInRange}
 use Rattle.model.specs.Valid.{groupFits, sectionFits}
 use Rattle.exact.proofs.Bools.{and-split}
@@ -75,7 +75,7 @@ section-facts s h =
       bare = leb-true _ _ (f .1);
     }
 
-pub gross-bound : (s : Section) → SectionFacts s → gross s .0 ≤ 150_000_000
+pub gross-bound : (s : Section) → SectionFacts s → gross s .0 ≤ largestGross
 unfolding gross
 gross-bound s h = mul-le-mul {n₂ = 15_000} {m₂ = 10_000} (h .width .high) (h .height .high)
 
@@ -83,8 +83,8 @@ coefficient-bound : (t : Length) (it : Item) (n : ℕ) → it .bare ≤ n → it
 unfolding coefficient
 coefficient-bound t it n h g = cond-bound (eqb (t .0) 0) (omega arith) (omega arith)
 
--- an item's part is at most that of 3.1 m by 10 m with coefficient 3 and K 1
-pub item-bound : (t : Length) (it : Item) → t .0 ≤ 50 → fieldsInRange it ≡ true → itemPart t it ≤ 3000 * 1000 * 31_000_000
+-- an item's part is at most that of the largest
+pub item-bound : (t : Length) (it : Item) → t .0 ≤ 50 → fieldsInRange it ≡ true → itemPart t it ≤ largestItem
 unfolding itemPart itemArea
 item-bound t it ht h =
     let a : _ = and-split _ (within positionFactor (it .position)) h in

@@ -38,6 +38,10 @@ itemArea t it = icedArea t (it .width) (it .length)
 unfoldable pub gross : Section → Area
 gross s = record { 0 = s .width .0 * s .height .0 }
 
+-- no face is larger: 15 m by 10 m (law `gross-bound` in proofs/Sections)
+abbrev pub largestGross : ℕ
+largestGross = 150_000_000
+
 -- a round group of bare diameter d under pressure q is supercritical exactly if t = 0 and 2 q d² > 45 000 000
 abbrev pub isSupercritical : Length → ℕ → Length → Bool
 isSupercritical t q d = eqb (t .0) 0 && ltb 45_000_000 (2 * q * (d .0 * d .0))

@@ -93,9 +93,12 @@ itemPart t it = coefficient t it * it .position * itemArea t it .0
 unfoldable pub itemSum : Length → ℕ → List Item → ℕ
 itemSum t i items = sumBy (λ it. cond (eqb (it .section) i) (itemPart t it) 0) items
 
--- no section has more: 64 items of 3.1 m by 10 m under ice, coefficient 3 and K 1 (law `items-bound` in proofs/Forces)
+-- the largest item: 3 m by 10 m under 50 mm of ice, coefficient 3 and K 1; no section has more than 64 of it (laws `item-bound`, `items-bound`)
+abbrev pub largestItem : ℕ
+largestItem = 3000 * 1000 * 31_000_000
+
 abbrev pub largestItems : ℕ
-largestItems = 64 * (3000 * 1000 * 31_000_000)
+largestItems = 64 * largestItem
 
 -- Kθ (c_f A_f + c_c A_c + c_p A_p) + items, in m²
 unfoldable pub resistance : Legs → ℕ → Area → Areas → ℕ → Exact

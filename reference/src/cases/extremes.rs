@@ -3,7 +3,7 @@
 use super::samples::under;
 use super::Case;
 use crate::sample::{flat, item, round, sample, section, tower};
-use crate::tower::{ice_thickness, Group, Item, Legs, Tower, MOST_ITEMS};
+use crate::tower::{ice_thickness, Group, Item, Legs, Tower, GROUP_COUNT, MOST_ITEMS};
 use crate::units::Length;
 
 /// All of them.
@@ -14,14 +14,30 @@ pub fn cases() -> Vec<Case> {
         cases.extend(largest(legs));
         cases.extend(largest_in_calm(legs));
         cases.extend(loads(legs));
+        cases.push(longest(legs));
     }
     cases
 }
 
-/// Along the normal, and where the wind counts most or least.
-const DIRECTIONS: [u32; 2] = [0, 4];
+/// A direction with s = 1, where Kθ of a square is largest and Kθ of flats on a
+/// triangle is least.
+pub fn turned(legs: Legs) -> u32 {
+    match legs {
+        Legs::Three => 4,
+        Legs::Four => 3,
+    }
+}
 
-/// 100 by 100 with one group of 1 by 1, and no item or one as small as any.
+/// With s = 0 and with s = 1.
+fn directions(legs: Legs) -> [u32; 2] {
+    [0, turned(legs)]
+}
+
+/// Bare, and the least and the most ice.
+const ICE: [u32; 3] = [0, 1, 5];
+
+/// 100 by 100 with one group of 1 by 1, bare and iced, and no item or one as
+/// small as any.
 fn smallest(legs: Legs) -> Vec<Case> {
     let none = Vec::new();
     let least = Item {
@@ -37,18 +53,25 @@ fn smallest(legs: Legs) -> Vec<Case> {
         let mut tower = tower(legs, &[section(100, 100, &[group])]);
         for items in [&none, &vec![least]] {
             tower.items.clone_from(items);
-            for direction in DIRECTIONS {
-                for (pressure, factor) in [(0, 500), (1, 500), (5_000, 2_000)] {
-                    cases.push(under(&tower, direction, 0).loaded(pressure, factor));
-                }
-            }
+            cases.extend(ICE.iter().flat_map(|ice| smallest_under(&tower, *ice)));
+        }
+    }
+    cases
+}
+
+fn smallest_under(tower: &Tower, ice_class: u32) -> Vec<Case> {
+    let mut cases = Vec::new();
+    for direction in directions(tower.legs) {
+        for (pressure, factor) in [(0, 500), (1, 500), (5_000, 2_000)] {
+            cases.push(under(tower, direction, ice_class).loaded(pressure, factor));
         }
     }
     cases
 }
 
 /// 15 000 by 10 000 under the largest load, bare and with the most ice, and no
-/// item or as many as hold, all largest.
+/// item or as many as hold, all largest. The largest force of all is that of
+/// iced rounds that fill a square's face, with s = 1.
 fn largest(legs: Legs) -> Vec<Case> {
     let mut cases = Vec::new();
     for kind in [flat, round] {
@@ -74,7 +97,7 @@ pub fn largest_with(
             items: (0..held as u16).map(largest_item).collect(),
             ..tower(legs, &[section(15_000, 10_000, &groups)])
         };
-        let winds = DIRECTIONS.map(|direction| under(&tower, direction, ice_class));
+        let winds = directions(legs).map(|direction| under(&tower, direction, ice_class));
         cases.extend(winds.map(|case| case.loaded(5_000, 2_000)));
     }
     cases
@@ -130,4 +153,24 @@ fn loads(legs: Legs) -> Vec<Case> {
         }
     }
     cases
+}
+
+/// The most groups, the longest group, the most items, on every section that a
+/// tower can have, and the last direction: 417 numbers.
+fn longest(legs: Legs) -> Case {
+    let mut groups = vec![flat(500, 200_000)];
+    groups.resize(*GROUP_COUNT.end() as usize, round(1_000, 7_000));
+    let on = |number: u16| Item {
+        section: (number % 32) as u8,
+        ..largest_item(number)
+    };
+    let tower = Tower {
+        items: (0..MOST_ITEMS as u16).map(on).collect(),
+        ..tower(legs, &[section(15_000, 10_000, &groups)])
+    };
+    let last = match legs {
+        Legs::Three => 22,
+        Legs::Four => 23,
+    };
+    under(&tower, last, 0)
 }

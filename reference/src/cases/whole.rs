@@ -1,7 +1,7 @@
-//! Exact forces that are a whole number of newtons, and ones as close to it as
-//! the items allow: where a force that is off by one shows.
+//! Exact forces that are a whole number of newtons, and forces beside one, by
+//! as little as the items allow: there the smallest error changes the answer.
 
-use super::extremes::largest_with;
+use super::extremes::{largest_with, turned};
 use super::ratios::{self, Members};
 use super::samples::{sample_cases, under};
 use super::Case;
@@ -10,14 +10,13 @@ use crate::sample::{flat, item, round, sample, section, tower};
 use crate::tower::{Item, Legs, Tower, MOST_ITEMS};
 use crate::units::{Force, Length};
 
-/// Whole forces, then close calls.
+/// Whole forces, then forces beside a whole number of newtons.
 pub fn cases() -> Vec<Case> {
-    let mut bare = sample_cases();
-    bare.retain(|case| case.wind.ice_class == 0);
-    bare.extend(rooted());
-    bare.extend(heaviest());
-    let close = bare.iter().flat_map(close_calls);
-    whole().into_iter().chain(close).collect()
+    let mut bases = sample_cases();
+    bases.extend(rooted());
+    bases.extend(heaviest());
+    let beside = bases.iter().flat_map(beside_whole);
+    whole().into_iter().chain(beside).collect()
 }
 
 /// Whole without items; the last one has a root that is a fraction.
@@ -61,19 +60,25 @@ fn rooted() -> Vec<Case> {
     cases
 }
 
-/// The largest section with as many of the largest items as leave room for the
-/// four that make a close call.
+/// The largest section, full or 1 mm² less, with s = 1 and with as many of the
+/// largest items as leave room for four more. The last two are iced.
 fn heaviest() -> Vec<Case> {
-    let held = MOST_ITEMS - 4;
-    [Legs::Three, Legs::Four]
-        .map(|legs| largest_with(legs, round, 0, held))
-        .concat()
+    let shapes = [(Legs::Three, 0), (Legs::Four, 0), (Legs::Four, 5)];
+    let mut cases = shapes
+        .map(|(legs, ice_class)| largest_with(legs, round, ice_class, MOST_ITEMS - 4))
+        .concat();
+    cases.retain(|case| {
+        let nearly_full = case.section().groups[0].length > Length(1);
+        nearly_full && case.wind.direction == turned(case.tower.legs)
+    });
+    cases
 }
 
-/// The case with so many more items that its force just does not pass a whole
-/// newton, with the least that can be taken off, and with the least more.
-fn close_calls(case: &Case) -> Vec<Case> {
-    let Force(least) = case.exact_force().least_whole();
+/// The case with four items more, so that the force just does not pass a whole
+/// number of newtons, with the least that can be taken off, and with the least
+/// more.
+fn beside_whole(case: &Case) -> Vec<Case> {
+    let Force(least) = with_more(case, 0).exact_force().least_whole();
     let whole = Force(least + 1);
     let fits = |sum| with_more(case, sum).exact_force().is_at_most(whole);
     let (mut most, mut too_much) = (0, 3_000_000_000_000);
@@ -90,8 +95,8 @@ fn close_calls(case: &Case) -> Vec<Case> {
         .to_vec()
 }
 
-/// The bare case with up to four items more, of this sum, which is at most
-/// 3 · 10¹².
+/// The case with four items more. At 0 each of them is 1 mm wide; the items' sum
+/// is above that by `sum`, which is less than 3 · 10¹².
 fn with_more(case: &Case, sum: u64) -> Case {
     let parts = [
         (sum / 1_000_000_000, 1_000, 1_000, 1_000),
@@ -100,17 +105,19 @@ fn with_more(case: &Case, sum: u64) -> Case {
         (sum % 1_000, 1, 1, 1),
     ];
     let mut case = case.clone();
-    for (width, length, bare, position) in parts {
-        if width > 0 {
-            case.tower.items.push(Item {
-                width: Length(width as u32),
-                length: Length(length),
-                bare,
-                iced: 3_000,
-                position,
-                ..item(100 + case.tower.items.len() as u16)
-            });
-        }
+    for (wider, length, coefficient, position) in parts {
+        let (bare, iced) = match case.wind.ice_class {
+            0 => (coefficient, 3_000),
+            _ => (3_000, coefficient),
+        };
+        case.tower.items.push(Item {
+            width: Length(1 + wider as u32),
+            length: Length(length),
+            bare,
+            iced,
+            position,
+            ..item(100 + case.tower.items.len() as u16)
+        });
     }
     case
 }

@@ -38,13 +38,12 @@ impl Read {
     }
 }
 
-/// Both files, line by line.
+/// The cases of both files, line by line.
 fn read() -> &'static [Read] {
     static READ: OnceLock<Vec<Read>> = OnceLock::new();
     READ.get_or_init(|| {
         let [stdin, stdout] = texts();
-        assert_eq!(stdin.lines().count(), stdout.lines().count());
-        let lines = stdin.lines().zip(stdout.lines());
+        let lines = stdin.lines().zip(stdout.lines()).take(all().len());
         let read = |(line, answer)| Read {
             case: parse(line),
             answer: numbers(answer).try_into().expect("five numbers"),
@@ -53,7 +52,8 @@ fn read() -> &'static [Read] {
     })
 }
 
-fn texts() -> [String; 2] {
+/// `stdin` and `stdout`.
+pub fn texts() -> [String; 2] {
     let files = files();
     let names: Vec<&str> = files.iter().map(|file| file.name).collect();
     assert_eq!(names, ["stdin", "stdout"]);
@@ -133,11 +133,6 @@ fn parse_item(next: &mut impl FnMut() -> u32, place: u32) -> Item {
 }
 
 #[test]
-fn the_files_are_the_same_each_time() {
-    assert_eq!(files(), files());
-}
-
-#[test]
 fn every_line_reads_back() {
     let cases = all();
     assert_eq!(cases.len(), read().len());
@@ -165,8 +160,9 @@ fn the_service_accepts_every_case_and_reports_its_answer() {
 }
 
 #[test]
-fn there_are_enough_cases() {
-    assert!((1_500..=3_000).contains(&read().len()), "{}", read().len());
+fn there_are_so_many_cases() {
+    // README.md states this number
+    assert_eq!(read().len(), 2_999);
     let random = random_cases();
     assert_eq!(random.len(), 1_000);
     let lines: BTreeSet<String> = random.iter().map(Case::line).collect();
@@ -221,7 +217,7 @@ fn every_ratio_has_every_class_and_direction_on_both_shapes() {
 
 #[test]
 fn the_smallest_and_the_largest_are_there() {
-    let mut found: BTreeMap<_, usize> = BTreeMap::new();
+    let mut found: BTreeMap<_, BTreeMap<u32, usize>> = BTreeMap::new();
     for read in read() {
         let (section, wind) = (read.case.section(), &read.case.wind);
         let size = (section.width.0, section.height.0);
@@ -229,22 +225,48 @@ fn the_smallest_and_the_largest_are_there() {
         let held = read.case.tower.items.len();
         let legs = read.case.tower.legs.count();
         let key = (size, load, legs, wind.ice_class, read.solid(), held);
-        *found.entry(key).or_default() += 1;
+        *found
+            .entry(key)
+            .or_default()
+            .entry(wind.direction)
+            .or_default() += 1;
     }
-    let (large, most) = ((15_000, 10_000), (5_000, 2_000));
-    for legs in [3, 4] {
-        assert_eq!(found[&((100, 100), (1, 500), legs, 0, 1, 0)], 4);
-        // with ice, 1 by 1 is 101 mm²
+    let (small, large) = ((100, 100), (15_000, 10_000));
+    for (legs, turned) in [(3, 4), (4, 3)] {
+        // a flat and a round, along the normal and with s = 1
+        let both = BTreeMap::from([(0, 2), (turned, 2)]);
+        for (ice, least) in [(0, 1), (1, 21), (5, 101)] {
+            for (load, held) in [((1, 500), 0), ((5_000, 2_000), 1)] {
+                assert_eq!(found[&(small, load, legs, ice, least, held)], both);
+            }
+        }
         for (ice, least) in [(0, 1), (5, 101)] {
             for solid in [150_000_000, 149_999_999, least] {
-                for held in [0, 64] {
-                    assert!(found[&(large, most, legs, ice, solid, held)] >= 4);
-                }
+                assert_eq!(found[&(large, (5_000, 2_000), legs, ice, solid, 0)], both);
+                let most = &found[&(large, (5_000, 2_000), legs, ice, solid, 64)];
+                assert!(most[&0] == 2 && most[&turned] >= 2, "{most:?}");
             }
         }
     }
-    let forces = read().iter().map(|read| read.answer[4]);
-    assert!((60_000_000..1 << 27).contains(&forces.max().expect("a case")));
+}
+
+/// 150 m² of iced rounds times c_c 2 times Kθ 1.16, and 64 times 3.1 m by 10 m
+/// times 3, under 10 000 N/m²; no tower has more.
+#[test]
+fn the_largest_force_is_there() {
+    for (held, force) in [(0, 3_480_000), (64, 63_000_000)] {
+        let most = |read: &&Read| read.case.tower.items.len() <= held;
+        let forces = read().iter().filter(most).map(|read| read.answer[4]);
+        assert_eq!(forces.max(), Some(force));
+        let sum = held as u64 * 93_000_000_000_000;
+        let wanted = |read: &Read| {
+            let wind = &read.case.wind;
+            read.answer == [0, 150_000_000, 0, sum, force]
+                && (wind.direction, wind.ice_class) == (3, 5)
+                && read.case.tower.legs == Legs::Four
+        };
+        assert!(read().iter().any(wanted), "{held} items");
+    }
 }
 
 #[test]
@@ -312,7 +334,7 @@ fn the_flow_limit_is_met_and_passed() {
 }
 
 #[test]
-fn whole_forces_and_close_calls_are_there() {
+fn whole_forces_and_forces_beside_one_are_there() {
     let (mut whole, mut rooted, mut below, mut above) = (0, 0, 0, 0);
     for read in read().iter().filter(|read| read.answer[4] > 0) {
         let exactly = read.compare(0, 0) == Ordering::Equal;
@@ -326,4 +348,28 @@ fn whole_forces_and_close_calls_are_there() {
     assert!(rooted >= 2, "{rooted} whole forces with a root");
     assert!(below >= 40, "{below} just below a whole force");
     assert!(above >= 40, "{above} just above a whole force");
+}
+
+/// With 60 of the largest items: 10⁻⁸ N below, exactly whole, 10⁻⁸ N above.
+#[test]
+fn the_largest_force_with_room_for_four_items_is_beside_a_whole_one() {
+    let near = 59_280_000..59_290_000;
+    let these = read().iter().filter(|read| near.contains(&read.answer[4]));
+    let full = these.filter(|read| read.solid() == read.gross());
+    let beside: Vec<_> = full
+        .map(|read| {
+            let parts = [(1, 99_999_999), (0, 0), (1, 1)];
+            let place = parts.map(|(less, part)| read.compare(less, part));
+            (read.answer[4], place.map(|order| order == Ordering::Equal))
+        })
+        .collect();
+    let whole = beside[0].0;
+    assert_eq!(
+        beside,
+        [
+            (whole, [true, false, false]),
+            (whole, [false, true, false]),
+            (whole + 1, [false, false, true]),
+        ]
+    );
 }

@@ -12,5 +12,6 @@ mod formula;
 mod host;
 mod least_force;
 mod plain;
+mod refused;
 mod samples;
 mod vectors;

@@ -46,7 +46,8 @@ fn the_plain_force_is_off_by_one_at_times() {
         above += usize::from(plain > least);
         below += usize::from(plain < least);
     }
-    assert!(above > 0 && below > 0, "{above} above, {below} below");
+    // README.md states these numbers
+    assert_eq!((above, below), (18, 2));
 }
 
 /// (1 - cos 4θ)/2 for the square and (1 - cos 3θ)/2 for the triangle have the

@@ -1,16 +1,15 @@
 use Rattle.areas.proofs.Fits.{under-facts}
-use Rattle.case_words.proofs.Sound.{sound}
 use borrow.Author.Needs.{needs}
 use Rattle.force_cases.proofs.answer_case.Statement.{statement}
 use Rattle.force_cases.proofs.answer_case.Tie as tie
 
 thickness-requires : tie.Need-thickness-requires
-thickness-requires c κs = sound _ (c .before .pre .0) .ice
+thickness-requires c κs = c .before .pre .0 .ice
 
 item-sum-requires : tie.Need-item-sum-requires
 item-sum-requires c κs =
     let p = c .before .before .pre in
-    let f = rw (← c .thickness .ensures) at (sound _ (p .0) .fits) in
+    let f = rw (← c .thickness .ensures) at (p .0 .fits) in
     (under-facts _ _ f .ice, p .1, p .2)
 
 legs-of-requires : tie.Need-legs-of-requires
@@ -18,7 +17,7 @@ legs-of-requires c κs = search needs
 
 section-load-requires : tie.Need-section-load-requires
 section-load-requires c κs =
-    let s = sound _ (c .before .before .before .before .before .pre .0) in
+    let s = c .before .before .before .before .before .pre .0 in
     let f = rw (← c .before .before .before .thickness .ensures) at (s .fits) in
     (f, s .factor, s .pressure, c .before .before .item-sum .ensures .1)
 

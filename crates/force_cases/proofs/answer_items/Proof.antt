@@ -1,8 +1,11 @@
+use borrow.Author.Needs.{needs}
 use borrow.Author.Tests.{le-leb}
 use Rattle.exact.proofs.Bools.{passed}
-use borrow.Author.Needs.{needs}
 use Rattle.force_cases.proofs.answer_items.Statement.{statement}
 use Rattle.force_cases.proofs.answer_items.Tie as tie
+
+groups-end-requires : tie.Need-groups-end-requires
+groups-end-requires c κs = search needs
 
 slice-aggregate-refuse : tie.Need-slice-aggregate-refuse
 slice-aggregate-refuse c = search needs
@@ -34,14 +37,14 @@ same-length-2 c = search needs
 returns-2 : tie.Need-returns-2
 returns-2 c = search needs
 
-add-if3 : tie.Need-add-if3
-add-if3 c = search needs
+add-all : tie.Need-add-all
+add-all c = search needs
 
-mul-if3 : tie.Need-mul-if3
-mul-if3 c = search needs
+mul-all : tie.Need-mul-all
+mul-all c = search needs
 
-add-if3-2 : tie.Need-add-if3-2
-add-if3-2 c = search needs
+add-all-2 : tie.Need-add-all-2
+add-all-2 c = search needs
 
 slice-aggregate-refuse-3 : tie.Need-slice-aggregate-refuse-3
 slice-aggregate-refuse-3 c = search needs
@@ -55,15 +58,6 @@ same-length-3 c = search needs
 returns-3 : tie.Need-returns-3
 returns-3 c = search needs
 
-add-items-of : tie.Need-add-items-of
-add-items-of c = search needs
-
-items-of-requires : tie.Need-items-of-requires
-items-of-requires c κs = search needs
-
-items-fit-requires : tie.Need-items-fit-requires
-items-fit-requires c κs = search needs
-
 slice-aggregate-refuse-4 : tie.Need-slice-aggregate-refuse-4
 slice-aggregate-refuse-4 c = search needs
 
@@ -76,11 +70,20 @@ same-length-4 c = search needs
 returns-4 : tie.Need-returns-4
 returns-4 c = search needs
 
-answer-case-requires : tie.Need-answer-case-requires
-answer-case-requires c κs =
-    let h = c .before .before .before .before .before .if2 .left in
-    let k = passed (c .before .before .items-fit .ensures) (c .before .if4 .left) in
-    (c .before .before .before .before .before .before .before .before .before .before .pre .0, h, rw (le-leb _ _ h) at k)
+add-items-of : tie.Need-add-items-of
+add-items-of c = search needs
+
+items-of-requires : tie.Need-items-of-requires
+items-of-requires c κs = search needs
+
+items-fit-requires : tie.Need-items-fit-requires
+items-fit-requires c κs = search needs
+
+slice-aggregate-refuse-5 : tie.Need-slice-aggregate-refuse-5
+slice-aggregate-refuse-5 c = search needs
+
+refuse-requires-5 : tie.Need-refuse-requires-5
+refuse-requires-5 c κs = search needs
 
 same-length-5 : tie.Need-same-length-5
 same-length-5 c = search needs
@@ -88,10 +91,23 @@ same-length-5 c = search needs
 returns-5 : tie.Need-returns-5
 returns-5 c = search needs
 
+answer-case-requires : tie.Need-answer-case-requires
+answer-case-requires c κs =
+    let h = c .before .before .before .before .before .before .if2 .left in
+    let k = passed (c .before .before .items-fit .ensures) (c .before .if5 .left) in
+    (c .before .before .before .before .before .before .before .before .before .before .before .before .before .pre, h, rw (le-leb _ _ h) at k)
+
+same-length-6 : tie.Need-same-length-6
+same-length-6 c = search needs
+
+returns-6 : tie.Need-returns-6
+returns-6 c = search needs
+
 pub answer-items-spec : {M : Type 1} → statement M
 answer-items-spec =
     tie.close
     (tie.spec
+    groups-end-requires
     slice-aggregate-refuse
     refuse-requires
     same-length
@@ -102,20 +118,24 @@ answer-items-spec =
     refuse-requires-2
     same-length-2
     returns-2
-    add-if3
-    mul-if3
-    add-if3-2
+    add-all
+    mul-all
+    add-all-2
     slice-aggregate-refuse-3
     refuse-requires-3
     same-length-3
     returns-3
-    add-items-of
-    items-of-requires
-    items-fit-requires
     slice-aggregate-refuse-4
     refuse-requires-4
     same-length-4
     returns-4
-    answer-case-requires
+    add-items-of
+    items-of-requires
+    items-fit-requires
+    slice-aggregate-refuse-5
+    refuse-requires-5
     same-length-5
-    returns-5)
+    returns-5
+    answer-case-requires
+    same-length-6
+    returns-6)

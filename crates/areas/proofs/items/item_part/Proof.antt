@@ -3,7 +3,7 @@ use mathlib.Core.Path.{_≡_}
 use native.Mathlib.Nat.{mul-le-mul}
 use native.Mathlib.Omega.{arith}
 use Rattle.model.specs.Areas.{itemArea}
-use Rattle.model.specs.Force.{itemPart}
+use Rattle.model.specs.Force.{itemPart, largestItem}
 use Rattle.model.proofs.Sections.{item-bound}
 use Rattle.areas.proofs.Facts.{item-facts}
 use borrow.Author.Needs.{needs}
@@ -34,7 +34,7 @@ unfolding itemPart itemArea
 part c = rw (c .before .before .coefficient .ensures .0, c .before .before .before .iced-area .ensures)
 
 bound : (c : tie.After-struct-known2)
-    → itemPart (c .before .before .before .before .args .t) (c .before .before .before .before .args .it) ≤ 3000 * 1000 * 31_000_000
+    → itemPart (c .before .before .before .before .args .t) (c .before .before .before .before .args .it) ≤ largestItem
 bound c =
     let s = c .before .before .before .before in
     item-bound (s .args .t) (s .args .it) (s .pre .0) (s .pre .1)

@@ -2,7 +2,7 @@ use Prim.Native.Nat.{_-_, _*_, _≤_, _<_}
 use mathlib.Core.Path.{_≡_, sym}
 use native.Mathlib.Omega.{arith}
 use lib.ListN.{length, take}
-use Rattle.model.specs.Force.{itemSum}
+use Rattle.model.specs.Force.{itemSum, largestItem}
 use Rattle.model.specs.File.{fieldsInRange}
 use Rattle.model.proofs.Lists.{length-mapped, taken-at}
 use Rattle.areas.proofs.Facts.{noItem}
@@ -13,7 +13,7 @@ use Rattle.areas.proofs.items.item_sum.Tie as tie
 
 abbrev Inv-loop : tie.InvT-loop
 Inv-loop t section held items sum₀ i₀ sum i =
-    (i ≤ held) × (sum ≡ itemSum t section (take i items)) × (sum ≤ i * (3000 * 1000 * 31_000_000))
+    (i ≤ held) × (sum ≡ itemSum t section (take i items)) × (sum ≤ i * largestItem)
 
 abbrev μ-loop : tie.MeasureT-loop
 μ-loop t section held items sum₀ i₀ sum i = held - i

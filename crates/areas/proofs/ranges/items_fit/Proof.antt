@@ -34,14 +34,14 @@ array-copy-out-it c = search needs
 long : (c : tie.Start Inv-loop μ-loop) → length (c .args .t1) ≡ 64
 long c = search (needs, length-mapped, c .good)
 
-item-fits-requires : tie.Need-item-fits-requires Inv-loop μ-loop
-item-fits-requires c κs = search needs
+fields-in-range-requires : tie.Need-fields-in-range-requires Inv-loop μ-loop
+fields-in-range-requires c κs = search needs
 
 returns-2 : tie.Need-returns-2 Inv-loop μ-loop
 returns-2 c =
     let l = c .before .before .before .before in
     let s = l .before .before in
-    let f = failed (c .before .item-fits .ensures) (c .if2 .taken) in
+    let f = failed (c .before .fields-in-range .ensures) (c .if2 .taken) in
     rw (
       le-leb _ _ (l .before .if1 .left),
       all-fails fieldsInRange (s .args .t1) (s .args .held) (l .loop .i) noItem (c .before .before .before .loop-test .taken) (omega (arith, long s)) f,
@@ -59,7 +59,7 @@ loop-again c =
     let s = l .before .before in
     let h : l .loop .i < length (s .args .t1) = omega (arith, long s) in
     let m = all-more fieldsInRange (s .args .t1) (l .loop .i) noItem h in
-    (omega arith, m ∙ and-join (l .loop .inv .1) (passed (c .before .item-fits .ensures) (c .if2 .left)))
+    (omega arith, m ∙ and-join (l .loop .inv .1) (passed (c .before .fields-in-range .ensures) (c .if2 .left)))
 
 returns-3 : tie.Need-returns-3 Inv-loop μ-loop
 returns-3 c =
@@ -78,7 +78,7 @@ items-fit-spec =
     loop-holds
     mul-it
     array-copy-out-it
-    item-fits-requires
+    fields-in-range-requires
     returns-2
     add-i
     loop-less

@@ -2,7 +2,7 @@ use Prim.Native.Nat.{_*_, _≤_}
 use mathlib.Core.Path.{refl}
 use native.Mathlib.Nat.{mul-le-mul}
 use native.Mathlib.Omega.{arith}
-use Rattle.model.specs.Areas.{gross}
+use Rattle.model.specs.Areas.{gross, largestGross}
 use borrow.Author.Needs.{needs}
 use Rattle.areas.proofs.section.gross_area.Statement.{statement}
 use Rattle.areas.proofs.section.gross_area.Tie as tie
@@ -13,7 +13,7 @@ cast-t2 c = search needs
 cast-t3 : tie.Need-cast-t3
 cast-t3 c = search needs
 
-small : (c : tie.Start) → c .args .s .width .0 * c .args .s .height .0 ≤ 150_000_000
+small : (c : tie.Start) → c .args .s .width .0 * c .args .s .height .0 ≤ largestGross
 small c = mul-le-mul {n₂ = 15_000} {m₂ = 10_000} (c .pre .0) (c .pre .1)
 
 mul-t4 : tie.Need-mul-t4

@@ -30,8 +30,8 @@ add-word32-2 c = search needs
 word32-requires-2 : tie.Need-word32-requires-2
 word32-requires-2 c κs = search needs
 
-member-of-requires : tie.Need-member-of-requires
-member-of-requires c κs = search needs
+member-read-requires : tie.Need-member-read-requires
+member-read-requires c κs = search needs
 
 returns : tie.Need-returns
 unfolding groupOf
@@ -50,5 +50,5 @@ group-at-spec =
     mul-word32-2
     add-word32-2
     word32-requires-2
-    member-of-requires
+    member-read-requires
     returns)

@@ -7,6 +7,7 @@ use Rattle.force.proofs.Coefficients.{divisor-four, divisor-three}
 use borrow.Author.Needs.{needs}
 use mathlib.Core.Path.{_≡_}
 use Rattle.force.proofs.face.divisor.Statement.{statement}
+use Rattle.model.specs.Areas.{largestGross}
 use Rattle.force.proofs.face.divisor.Tie as tie
 
 add-u : tie.Need-add-u
@@ -21,22 +22,22 @@ mul-mul64 c = search needs
 mul-mul64-2 : tie.Need-mul-mul64-2
 mul-mul64-2 c =
     let s = c .before .before .args in
-    let h : s .s * (s .s + s .e) ≤ 150_000_000 * 150_000_000 = mul-le-mul {n₁ = s .s} {m₁ = s .s + s .e} {n₂ = 150_000_000} {m₂ = 150_000_000} (omega arith) (omega arith) in
-    let g : (s .s + s .e) * (s .s + s .e) ≤ 150_000_000 * 150_000_000 = mul-le-mul {n₁ = s .s + s .e} {m₁ = s .s + s .e} {n₂ = 150_000_000} {m₂ = 150_000_000} (omega arith) (omega arith) in
+    let h : s .s * (s .s + s .e) ≤ largestGross * largestGross = mul-le-mul {n₁ = s .s} {m₁ = s .s + s .e} {n₂ = largestGross} {m₂ = largestGross} (omega arith) (omega arith) in
+    let g : (s .s + s .e) * (s .s + s .e) ≤ largestGross * largestGross = mul-le-mul {n₁ = s .s + s .e} {m₁ = s .s + s .e} {n₂ = largestGross} {m₂ = largestGross} (omega arith) (omega arith) in
     omega (arith, h, g)
 
 mul-mul64-3 : tie.Need-mul-mul64-3
 mul-mul64-3 c =
     let s = c .before .before .args in
-    let h : s .s * (s .s + s .e) ≤ 150_000_000 * 150_000_000 = mul-le-mul {n₁ = s .s} {m₁ = s .s + s .e} {n₂ = 150_000_000} {m₂ = 150_000_000} (omega arith) (omega arith) in
-    let g : (s .s + s .e) * (s .s + s .e) ≤ 150_000_000 * 150_000_000 = mul-le-mul {n₁ = s .s + s .e} {m₁ = s .s + s .e} {n₂ = 150_000_000} {m₂ = 150_000_000} (omega arith) (omega arith) in
+    let h : s .s * (s .s + s .e) ≤ largestGross * largestGross = mul-le-mul {n₁ = s .s} {m₁ = s .s + s .e} {n₂ = largestGross} {m₂ = largestGross} (omega arith) (omega arith) in
+    let g : (s .s + s .e) * (s .s + s .e) ≤ largestGross * largestGross = mul-le-mul {n₁ = s .s + s .e} {m₁ = s .s + s .e} {n₂ = largestGross} {m₂ = largestGross} (omega arith) (omega arith) in
     omega (arith, h, g)
 
 mul-mul64-4 : tie.Need-mul-mul64-4
 mul-mul64-4 c =
     let s = c .before .before .args in
-    let h : s .s * (s .s + s .e) ≤ 150_000_000 * 150_000_000 = mul-le-mul {n₁ = s .s} {m₁ = s .s + s .e} {n₂ = 150_000_000} {m₂ = 150_000_000} (omega arith) (omega arith) in
-    let g : (s .s + s .e) * (s .s + s .e) ≤ 150_000_000 * 150_000_000 = mul-le-mul {n₁ = s .s + s .e} {m₁ = s .s + s .e} {n₂ = 150_000_000} {m₂ = 150_000_000} (omega arith) (omega arith) in
+    let h : s .s * (s .s + s .e) ≤ largestGross * largestGross = mul-le-mul {n₁ = s .s} {m₁ = s .s + s .e} {n₂ = largestGross} {m₂ = largestGross} (omega arith) (omega arith) in
+    let g : (s .s + s .e) * (s .s + s .e) ≤ largestGross * largestGross = mul-le-mul {n₁ = s .s + s .e} {m₁ = s .s + s .e} {n₂ = largestGross} {m₂ = largestGross} (omega arith) (omega arith) in
     omega (arith, h, g)
 
 mul64-requires : tie.Need-mul64-requires
@@ -51,8 +52,8 @@ mul-mul64-5 c = search needs
 mul-mul64-6 : tie.Need-mul-mul64-6
 mul-mul64-6 c =
     let s = c .before .before .args in
-    let h : s .s * (s .s + s .e) ≤ 150_000_000 * 150_000_000 = mul-le-mul {n₁ = s .s} {m₁ = s .s + s .e} {n₂ = 150_000_000} {m₂ = 150_000_000} (omega arith) (omega arith) in
-    let g : (s .s + s .e) * (s .s + s .e) ≤ 150_000_000 * 150_000_000 = mul-le-mul {n₁ = s .s + s .e} {m₁ = s .s + s .e} {n₂ = 150_000_000} {m₂ = 150_000_000} (omega arith) (omega arith) in
+    let h : s .s * (s .s + s .e) ≤ largestGross * largestGross = mul-le-mul {n₁ = s .s} {m₁ = s .s + s .e} {n₂ = largestGross} {m₂ = largestGross} (omega arith) (omega arith) in
+    let g : (s .s + s .e) * (s .s + s .e) ≤ largestGross * largestGross = mul-le-mul {n₁ = s .s + s .e} {m₁ = s .s + s .e} {n₂ = largestGross} {m₂ = largestGross} (omega arith) (omega arith) in
     omega (arith, h, g)
 
 mul-mul64-7 : tie.Need-mul-mul64-7

@@ -7,6 +7,7 @@ use Rattle.force.proofs.Coefficients.{open-sum}
 use borrow.Author.Needs.{needs}
 use mathlib.Core.Path.{_≡_}
 use Rattle.force.proofs.face.face_num.Statement.{statement}
+use Rattle.model.specs.Areas.{largestGross}
 use Rattle.force.proofs.face.face_num.Tie as tie
 
 enum-told : tie.Need-enum-told
@@ -15,7 +16,7 @@ enum-told c = search needs
 face-four-requires : tie.Need-face-four-requires
 face-four-requires c κs =
     let s = c .before .before .args in
-    omega (arith, open-sum (s .a) (s .e) 150_000_000 (c .before .before .pre))
+    omega (arith, open-sum (s .a) (s .e) largestGross (c .before .before .pre))
 
 enum-told-2 : tie.Need-enum-told-2
 enum-told-2 c = search needs
@@ -23,7 +24,7 @@ enum-told-2 c = search needs
 face-three-requires : tie.Need-face-three-requires
 face-three-requires c κs =
     let s = c .before .before .args in
-    omega (arith, open-sum (s .a) (s .e) 150_000_000 (c .before .before .pre))
+    omega (arith, open-sum (s .a) (s .e) largestGross (c .before .before .pre))
 
 returns : tie.Need-returns
 returns c =

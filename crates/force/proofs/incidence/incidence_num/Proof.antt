@@ -9,12 +9,13 @@ use Rattle.force.proofs.IncidenceFactor.{incidence-is-four, incidence-i
 use borrow.Author.Needs.{needs}
 use mathlib.Core.Path.{_≡_}
 use Rattle.force.proofs.incidence.incidence_num.Statement.{statement}
+use Rattle.model.specs.Areas.{largestGross}
 use Rattle.force.proofs.incidence.incidence_num.Tie as tie
 
 add-r : tie.Need-add-r
 add-r c =
     let s = c .before .args in
-    omega (arith, open-sum (s .a) (s .e) 150_000_000 (c .before .pre))
+    omega (arith, open-sum (s .a) (s .e) largestGross (c .before .pre))
 
 enum-told : tie.Need-enum-told
 enum-told c = search needs
@@ -22,7 +23,7 @@ enum-told c = search needs
 incidence-four-requires : tie.Need-incidence-four-requires
 incidence-four-requires c κs =
     let s = c .before .before .before .args in
-    omega (arith, open-sum (s .a) (s .e) 150_000_000 (c .before .before .before .pre))
+    omega (arith, open-sum (s .a) (s .e) largestGross (c .before .before .before .pre))
 
 enum-told-2 : tie.Need-enum-told-2
 enum-told-2 c = search needs
@@ -30,7 +31,7 @@ enum-told-2 c = search needs
 mul-result : tie.Need-mul-result
 mul-result c =
     let s = c .before .before .before .args in
-    omega (arith, open-sum (s .a) (s .e) 150_000_000 (c .before .before .before .pre))
+    omega (arith, open-sum (s .a) (s .e) largestGross (c .before .before .before .pre))
 
 halves-requires : tie.Need-halves-requires
 halves-requires c κs = search needs
@@ -41,14 +42,14 @@ sub-result c = search needs
 mul-result-2 : tie.Need-mul-result-2
 mul-result-2 c =
     let s = c .before .before .before .before .args in
-    let h = open-sum (s .a) (s .e) 150_000_000 (c .before .before .before .before .pre) in
-    omega (arith, h, mul-le-mul {n₁ = s .a .flat .0} {m₁ = 20 - c .halves .result} {n₂ = 150_000_000} {m₂ = 20} (omega arith) (omega arith))
+    let h = open-sum (s .a) (s .e) largestGross (c .before .before .before .before .pre) in
+    omega (arith, h, mul-le-mul {n₁ = s .a .flat .0} {m₁ = 20 - c .halves .result} {n₂ = largestGross} {m₂ = 20} (omega arith) (omega arith))
 
 add-result : tie.Need-add-result
 add-result c =
     let s = c .before .before .before .before .args in
-    let h = open-sum (s .a) (s .e) 150_000_000 (c .before .before .before .before .pre) in
-    omega (arith, h, mul-le-mul {n₁ = s .a .flat .0} {m₁ = 20 - c .halves .result} {n₂ = 150_000_000} {m₂ = 20} (omega arith) (omega arith))
+    let h = open-sum (s .a) (s .e) largestGross (c .before .before .before .before .pre) in
+    omega (arith, h, mul-le-mul {n₁ = s .a .flat .0} {m₁ = 20 - c .halves .result} {n₂ = largestGross} {m₂ = 20} (omega arith) (omega arith))
 
 returns : tie.Need-returns
 returns c =

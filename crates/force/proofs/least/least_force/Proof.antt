@@ -11,29 +11,29 @@ use mathlib.Core.Path.{_≡_}
 use Rattle.force.proofs.least.least_force.Statement.{statement}
 use Rattle.force.proofs.least.least_force.Tie as tie
 
-load-bound : (c : tie.Start) → c .args .q * c .args .factor ≤ 10_000_000
-load-bound c = mul-le-mul {n₁ = c .args .q} {m₁ = c .args .factor} {n₂ = 5000} {m₂ = 2000} (c .pre .3) (c .pre .2)
+factored-bound : (c : tie.Start) → c .args .q * c .args .factor ≤ 10_000_000
+factored-bound c = mul-le-mul {n₁ = c .args .q} {m₁ = c .args .factor} {n₂ = 5000} {m₂ = 2000} (c .pre .3) (c .pre .2)
 
-num-eq : (c : tie.After-numerator) → value256 (c .numerator .result) ≡ wholeForm (c .before .before .args .legs) (c .before .before .args .k) (c .before .before .args .factor) (c .before .before .args .q) (c .before .before .args .a) (c .before .before .args .e) (c .before .before .args .items) .num
+num-eq : (c : tie.After-numerator) → value256 (c .numerator .result) ≡ wholeForm (c .before .before .args .legs) (c .before .before .args .k) (c .before .before .args .factor) (c .before .before .args .q) (c .before .before .args .a) (c .before .before .args .gap .0) (c .before .before .args .items) .num
 num-eq c =
     let s = c .before .before .args in
     let t = c .before .terms-of in
     c .numerator .ensures
-    ∙ num-is (s .legs) (s .k) (s .factor) (s .q) (s .a) (s .e) (s .items) (s .q * s .factor) (t .result .incidence) (value128 (t .result .face)) (value128 (t .result .divisor)) refl (t .ensures .0) (t .ensures .1) (t .ensures .2)
+    ∙ num-is (s .legs) (s .k) (s .factor) (s .q) (s .a) (s .gap .0) (s .items) (s .q * s .factor) (t .result .incidence) (value128 (t .result .face)) (value128 (t .result .divisor)) refl (t .ensures .0) (t .ensures .1) (t .ensures .2)
 
-den-eq : (c : tie.After-denominator) → value256 (c .denominator .result) ≡ wholeForm (c .before .before .before .args .legs) (c .before .before .before .args .k) (c .before .before .before .args .factor) (c .before .before .before .args .q) (c .before .before .before .args .a) (c .before .before .before .args .e) (c .before .before .before .args .items) .den
+den-eq : (c : tie.After-denominator) → value256 (c .denominator .result) ≡ wholeForm (c .before .before .before .args .legs) (c .before .before .before .args .k) (c .before .before .before .args .factor) (c .before .before .before .args .q) (c .before .before .before .args .a) (c .before .before .before .args .gap .0) (c .before .before .before .args .items) .den
 den-eq c =
     let s = c .before .before .before .args in
-    c .denominator .ensures ∙ den-is (s .legs) (s .k) (s .factor) (s .q) (s .a) (s .e) (s .items) _ (c .before .before .terms-of .ensures .2)
+    c .denominator .ensures ∙ den-is (s .legs) (s .k) (s .factor) (s .q) (s .a) (s .gap .0) (s .items) _ (c .before .before .terms-of .ensures .2)
 
-rad-eq : (c : tie.After-root-part) → value512 (c .root-part .result) ≡ wholeForm (c .before .before .before .before .args .legs) (c .before .before .before .before .args .k) (c .before .before .before .before .args .factor) (c .before .before .before .before .args .q) (c .before .before .before .before .args .a) (c .before .before .before .before .args .e) (c .before .before .before .before .args .items) .radicand
+rad-eq : (c : tie.After-radicand) → value512 (c .radicand .result) ≡ wholeForm (c .before .before .before .before .args .legs) (c .before .before .before .before .args .k) (c .before .before .before .before .args .factor) (c .before .before .before .before .args .q) (c .before .before .before .before .args .a) (c .before .before .before .before .args .gap .0) (c .before .before .before .before .args .items) .radicand
 rad-eq c =
     let s = c .before .before .before .before .args in
     let t = c .before .before .before .terms-of in
-    c .root-part .ensures ∙ radicand-of (s .legs) (s .k) (s .factor) (s .q) (s .a) (s .e) (s .items) (s .q * s .factor) (t .result .incidence) refl (t .ensures .0)
+    c .radicand .ensures ∙ radicand-of (s .legs) (s .k) (s .factor) (s .q) (s .a) (s .gap .0) (s .items) (s .q * s .factor) (t .result .incidence) refl (t .ensures .0)
 
-mul-load : tie.Need-mul-load
-mul-load c =
+mul-factored : tie.Need-mul-factored
+mul-factored c =
     omega (arith, mul-le-mul {n₁ = c .args .q} {m₁ = c .args .factor} {n₂ = 5000} {m₂ = 2000} (omega arith) (omega arith))
 
 terms-of-requires : tie.Need-terms-of-requires
@@ -44,14 +44,14 @@ numerator-requires c κs =
     let s = c .before .args in
     let p = c .before .pre in
     let t = c .terms-of in
-    let e = num-is (s .legs) (s .k) (s .factor) (s .q) (s .a) (s .e) (s .items) (s .q * s .factor) (t .result .incidence) (value128 (t .result .face)) (value128 (t .result .divisor)) refl (t .ensures .0) (t .ensures .1) (t .ensures .2) in
-    (load-bound (c .before), rw e (num-room (s .legs) (s .k) (s .factor) (s .q) (s .a) (s .e) (s .items) (p .1) (p .3) (p .2) (p .4)))
+    let e = num-is (s .legs) (s .k) (s .factor) (s .q) (s .a) (s .gap .0) (s .items) (s .q * s .factor) (t .result .incidence) (value128 (t .result .face)) (value128 (t .result .divisor)) refl (t .ensures .0) (t .ensures .1) (t .ensures .2) in
+    (factored-bound (c .before), rw e (num-room (s .legs) (s .k) (s .factor) (s .q) (s .a) (s .gap .0) (s .items) (p .1) (p .3) (p .2) (p .4)))
 
 denominator-requires : tie.Need-denominator-requires
 denominator-requires c κs = search needs
 
-root-part-requires : tie.Need-root-part-requires
-root-part-requires c κs = (load-bound (c .before .before .before), c .before .before .before .pre .1)
+radicand-requires : tie.Need-radicand-requires
+radicand-requires c κs = (factored-bound (c .before .before .before), c .before .before .before .pre .1)
 
 ceiling-requires : tie.Need-ceiling-requires
 ceiling-requires c κs =
@@ -59,9 +59,9 @@ ceiling-requires c κs =
     let p = c .before .before .before .before .pre in
     let n = c .before .before .numerator .result in
     let d = c .before .denominator .result in
-    let m = c .root-part .result in (
-      den-above (s .legs) (s .k) (s .factor) (s .q) (s .a) (s .e) (s .items) n d m (num-eq (c .before .before)) (den-eq (c .before)) (rad-eq c) (p .0),
-      most-reaches (s .legs) (s .k) (s .factor) (s .q) (s .a) (s .e) (s .items) n d m (num-eq (c .before .before)) (den-eq (c .before)) (rad-eq c) (p .0) (p .1) (p .3) (p .2) (p .4),
+    let m = c .radicand .result in (
+      den-above (s .legs) (s .k) (s .factor) (s .q) (s .a) (s .gap .0) (s .items) n d m (num-eq (c .before .before)) (den-eq (c .before)) (rad-eq c) (p .0),
+      most-reaches (s .legs) (s .k) (s .factor) (s .q) (s .a) (s .gap .0) (s .items) n d m (num-eq (c .before .before)) (den-eq (c .before)) (rad-eq c) (p .0) (p .1) (p .3) (p .2) (p .4),
     )
 
 returns : tie.Need-returns
@@ -70,17 +70,17 @@ returns c =
     let p = c .before .before .before .before .before .pre in
     let n = c .before .before .before .numerator .result in
     let d = c .before .before .denominator .result in
-    let m = c .before .root-part .result in
-    least-exact (s .legs) (s .k) (s .factor) (s .q) (s .a) (s .e) (s .items) n d m (num-eq (c .before .before .before)) (den-eq (c .before .before)) (rad-eq (c .before)) (p .0) (c .ceiling .result) (c .ceiling .ensures)
+    let m = c .before .radicand .result in
+    least-exact (s .legs) (s .k) (s .factor) (s .q) (s .a) (s .gap .0) (s .items) n d m (num-eq (c .before .before .before)) (den-eq (c .before .before)) (rad-eq (c .before)) (p .0) (c .ceiling .result) (c .ceiling .ensures)
 
 pub least-force-spec : {M : Type 1} → statement M
 least-force-spec =
     tie.close
     (tie.spec
-    mul-load
+    mul-factored
     terms-of-requires
     numerator-requires
     denominator-requires
-    root-part-requires
+    radicand-requires
     ceiling-requires
     returns)

@@ -10,14 +10,14 @@ use Rattle.force.proofs.least.numerator.Tie as tie
 
 sums : (c : tie.After-mul1922)
     → value256 (c .before .before .mul192 .result) + value256 (c .mul1922 .result)
-    ≡ c .before .before .before .before .args .load
+    ≡ c .before .before .before .before .args .factored
     * (c .before .before .before .before .args .incidence * value128 (c .before .before .before .before .args .face) * 1_000_000
     + c .before .before .before .before .args .items * value128 (c .before .before .before .before .args .divisor))
 sums c =
     let s = c .before .before .before .before .args in
-    num-sum (s .load) (s .incidence) (value128 (s .face)) (s .items) (value128 (s .divisor)) _ _
-    (c .before .before .mul192 .ensures ∙ ap (λ (x : ℕ). x * (s .load * 1_000_000)) (c .before .before .before .mul128 .ensures))
-    (c .mul1922 .ensures ∙ ap (λ (x : ℕ). x * s .load) (c .before .mul1282 .ensures))
+    num-sum (s .factored) (s .incidence) (value128 (s .face)) (s .items) (value128 (s .divisor)) _ _
+    (c .before .before .mul192 .ensures ∙ ap (λ (x : ℕ). x * (s .factored * 1_000_000)) (c .before .before .before .mul128 .ensures))
+    (c .mul1922 .ensures ∙ ap (λ (x : ℕ). x * s .factored) (c .before .mul1282 .ensures))
 
 mul128-requires : tie.Need-mul128-requires
 mul128-requires c κs = search needs

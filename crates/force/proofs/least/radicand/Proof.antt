@@ -1,54 +1,64 @@
 use mathlib.Core.Path.{ap, _∙_}
-use Prim.Native.Nat.{ℕ, _-_, _*_}
+use Prim.Native.Nat.{ℕ, _+_, _-_, _*_}
 use native.Mathlib.Omega.{arith}
-use native.Mathlib.Nat.{mul-le-mul}
-use Rattle.wide.specs.Value.{value192}
-use Rattle.force.proofs.Quotient.{radicand-is}
+use Rattle.model.specs.Areas.{solid, largestGross}
+use Rattle.force.proofs.Coefficients.{open-sum}
+use Rattle.force.proofs.Quotient.{no-radicand}
 use borrow.Author.Needs.{needs}
-use Prim.Native.Nat.{_-_, _*_}
+use Prim.Native.Nat.{_+_, _-_, _*_}
 use Rattle.force.proofs.least.radicand.Statement.{statement}
 use Rattle.force.proofs.least.radicand.Tie as tie
 
-mul-mul64 : tie.Need-mul-mul64
-mul-mul64 c = search needs
-
-mul-mul64-2 : tie.Need-mul-mul64-2
-mul-mul64-2 c =
-    let s = c .args in
-    omega (arith, mul-le-mul {n₁ = s .p} {m₁ = s .u} {n₂ = 150_000_000} {m₂ = 150_000_000} (omega arith) (omega arith))
-
-mul64-requires : tie.Need-mul64-requires
-mul64-requires c κs = search needs
-
-mul128-requires : tie.Need-mul128-requires
-mul128-requires c κs = search needs
-
-mul192-requires : tie.Need-mul192-requires
-mul192-requires c κs = search needs
-
-mul192-requires-2 : tie.Need-mul192-requires-2
-mul192-requires-2 c κs = search needs
-
-product256-requires : tie.Need-product256-requires
-product256-requires c κs = search needs
+zero512-requires : tie.Need-zero512-requires
+zero512-requires c κs = search needs
 
 returns : tie.Need-returns
 returns c =
-    let s = c .before .before .before .before .before .args in
-    let r = c .before .before .before .mul128 in
-    c .product256 .ensures
-    ∙ radicand-is (s .load) (s .incidence) (s .p) (s .u) (s .root .open) (s .root .linear) (value192 (r .result)) _ _
-    (r .ensures ∙ ap (λ (x : ℕ). x * s .incidence) (c .before .before .before .before .mul64 .ensures)) (c .before .before .mul192 .ensures) (c .before .mul1922 .ensures)
+    let s = c .before .before .args in
+    c .zero512 .ensures ∙ no-radicand (s .factored * s .incidence * 1_000_000) (s .a .supercritical .0) _ _ (c .before .if1 .taken)
+
+add-s : tie.Need-add-s
+add-s c =
+    let s = c .before .before .args in
+    omega (arith, open-sum (s .a) (s .e) largestGross (c .before .before .pre .1))
+
+add-s-2 : tie.Need-add-s-2
+add-s-2 c =
+    let s = c .before .before .args in
+    omega (arith, open-sum (s .a) (s .e) largestGross (c .before .before .pre .1))
+
+add-supercritical-radicand : tie.Need-add-supercritical-radicand
+add-supercritical-radicand c =
+    let s = c .before .before .args in
+    omega (arith, open-sum (s .a) (s .e) largestGross (c .before .before .pre .1))
+
+root-num-requires : tie.Need-root-num-requires
+root-num-requires c κs =
+    let s = c .before .before .args in
+    omega (arith, open-sum (s .a) (s .e) largestGross (c .before .before .pre .1))
+
+supercritical-radicand-requires : tie.Need-supercritical-radicand-requires
+supercritical-radicand-requires c κs =
+    let b = c .before .before .before in
+    let s = b .args in
+    let h = open-sum (s .a) (s .e) largestGross (b .pre .1) in
+    (omega arith, omega arith, omega arith)
+
+returns-2 : tie.Need-returns-2
+unfolding solid
+returns-2 c =
+    let s = c .before .before .before .before .args in
+    c .supercritical-radicand .ensures ∙ ap (λ (x : ℕ). s .factored * s .incidence * 1_000_000 * s .a .supercritical .0 * (solid (s .a) .0 + s .e) * (s .factored * s .incidence * 1_000_000 * s .a .supercritical .0 * (solid (s .a) .0 + s .e)) * x) (c .before .root-num .ensures)
 
 pub radicand-spec : {M : Type 1} → statement M
 radicand-spec =
     tie.close
     (tie.spec
-    mul-mul64
-    mul-mul64-2
-    mul64-requires
-    mul128-requires
-    mul192-requires
-    mul192-requires-2
-    product256-requires
-    returns)
+    zero512-requires
+    returns
+    add-s
+    add-s-2
+    add-supercritical-radicand
+    root-num-requires
+    supercritical-radicand-requires
+    returns-2)

@@ -33,8 +33,8 @@ gross-area-requires c κs =
 solid-area-requires : tie.Need-solid-area-requires
 solid-area-requires c κs = c .before .section-areas .ensures .1
 
-sub-least-force : tie.Need-sub-least-force
-sub-least-force c =
+sub-t13 : tie.Need-sub-t13
+sub-t13 c =
     let h = known (c .before .before .before) in
     let e = solid-value (c .before .before) in
     omega arith
@@ -63,6 +63,6 @@ section-load-spec =
     section-areas-requires
     gross-area-requires
     solid-area-requires
-    sub-least-force
+    sub-t13
     least-force-requires
     returns)

@@ -3,8 +3,8 @@ use mathlib.Core.Bool.{true}
 use Rattle.model.specs.Ranges as range
 use Rattle.exact.proofs.Bools.{passed, failed}
 use borrow.Author.Needs.{needs}
-use Rattle.areas.proofs.ranges.item_fits.Statement.{statement}
-use Rattle.areas.proofs.ranges.item_fits.Tie as tie
+use Rattle.areas.proofs.ranges.fields_in_range.Statement.{statement}
+use Rattle.areas.proofs.ranges.fields_in_range.Tie as tie
 
 within-requires : tie.Need-within-requires
 within-requires c κs = search needs
@@ -60,8 +60,8 @@ returns-5 c =
     let e = c .before .before in
     rw (width (e .before .before .before .before .before .before .before .before), length (e .before .before .before .before .before .before), bare (e .before .before .before), iced e) (c .within5 .ensures)
 
-pub item-fits-spec : {M : Type 1} → statement M
-item-fits-spec =
+pub fields-in-range-spec : {M : Type 1} → statement M
+fields-in-range-spec =
     tie.close
     (tie.spec
     within-requires

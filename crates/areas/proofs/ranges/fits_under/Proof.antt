@@ -10,8 +10,8 @@ use Rattle.exact.proofs.Bools.{passed, failed}
 use Rattle.model.proofs.Lists.{length-mapped}
 use Rattle.areas.proofs.Fits.{size-facts, under-order}
 use borrow.Author.Needs.{needs}
-use Rattle.areas.proofs.ranges.section_fits.Statement.{statement}
-use Rattle.areas.proofs.ranges.section_fits.Tie as tie
+use Rattle.areas.proofs.ranges.fits_under.Statement.{statement}
+use Rattle.areas.proofs.ranges.fits_under.Tie as tie
 
 returns : tie.Need-returns
 unfolding fitsUnder
@@ -81,8 +81,8 @@ returns-5 c =
       d .before .before .before .before .gross-area .ensures .0,
     )
 
-pub section-fits-spec : {M : Type 1} → statement M
-section-fits-spec =
+pub fits-under-spec : {M : Type 1} → statement M
+fits-under-spec =
     tie.close
     (tie.spec
     returns
