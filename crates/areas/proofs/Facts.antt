@@ -8,9 +8,8 @@ use Rattle.units.specs.declared.Length.{Length}
 use Rattle.model.specs.declared.Member.the-variants.{Flat}
 use Rattle.model.specs.declared.Group.{Group}
 use Rattle.model.specs.declared.Item.{Item}
-use Rattle.model.specs.Ranges.{within, memberSize, memberLength, itemWidth, itemLength, coefficients, positionFactor}
+use Rattle.model.specs.Ranges.{within, memberSize, memberLength}
 use Rattle.model.specs.Areas.{sizeOf, groupArea}
-use Rattle.model.specs.File.{fieldsInRange}
 use Rattle.model.specs.Valid.{groupFits}
 use Rattle.exact.proofs.Bools.{and-split}
 use Rattle.model.proofs.Sections.{InRange, in-range}
@@ -45,24 +44,3 @@ pub group-bound : (t : Length) (g : Group) → t .0 ≤ 50 → GroupFacts g → 
 unfolding groupArea
 group-bound t g h f =
     mul-le-mul {n₁ = sizeOf (g .member) .0 + 2 * t .0} {m₁ = g .length .0} {n₂ = 1100} {m₂ = 200_000} (omega arith) (omega arith)
-
-pub record ItemFacts (it : Item) : Type 0 where
-  pub width : InRange itemWidth (it .width .0)
-  pub length : InRange itemLength (it .length .0)
-  pub bare : InRange coefficients (it .bare)
-  pub iced : InRange coefficients (it .iced)
-  pub position : InRange positionFactor (it .position)
-
-pub item-facts : (it : Item) → fieldsInRange it ≡ true → ItemFacts it
-item-facts it h =
-    let a : _ = and-split _ (within positionFactor (it .position)) h in
-    let b : _ = and-split _ (within coefficients (it .iced)) (a .0) in
-    let c : _ = and-split _ (within coefficients (it .bare)) (b .0) in
-    let d : _ = and-split (within itemWidth (it .width .0)) (within itemLength (it .length .0)) (c .0) in
-    record {
-      width = in-range _ _ (d .0);
-      length = in-range _ _ (d .1);
-      bare = in-range _ _ (c .1);
-      iced = in-range _ _ (b .1);
-      position = in-range _ _ (a .1);
-    }

@@ -17,21 +17,24 @@ use model::Group;
 use model::Item;
 use model::Member;
 use model::Section;
+use model::ranges::COEFFICIENTS;
+use model::ranges::ITEM_LENGTH;
+use model::ranges::ITEM_WIDTH;
+use model::ranges::MEMBER_LENGTH;
+use model::ranges::MEMBER_SIZE;
+use model::ranges::POSITION_FACTOR;
+use model::ranges::SECTION_HEIGHT;
+use model::ranges::SECTION_WIDTH;
+use model::ranges::within;
 use units::Area;
 use units::Length;
-
-pub fn within(low: u32, high: u32, x: u32) -> bool
-    ensures { λ r. ⌜ r ≡ leb low x && leb x high ⌝ }
-{
-    low <= x && x <= high
-}
 
 fn member_fits(m: Member) -> bool
     ensures { λ r. ⌜ r ≡ ranges.within ranges.memberSize (sizeOf m .0) ⌝ }
 {
     match m {
-        Member::Flat(w) => within(1, 1000, w.0),
-        Member::Round(d) => within(1, 1000, d.0),
+        Member::Flat(w) => within(MEMBER_SIZE, w.0),
+        Member::Round(d) => within(MEMBER_SIZE, d.0),
     }
 }
 
@@ -39,25 +42,25 @@ pub fn group_fits(g: Group) -> bool
     ensures { λ r. ⌜ r ≡ groupFits g ⌝ }
 {
     let m = g.member;
-    member_fits(m) && within(1, 200_000, g.length.0)
+    member_fits(m) && within(MEMBER_LENGTH, g.length.0)
 }
 
 pub fn fields_in_range(it: Item) -> bool
     ensures { λ r. ⌜ r ≡ fieldsInRange it ⌝ }
 {
-    if !within(1, 3000, it.width.0) {
+    if !within(ITEM_WIDTH, it.width.0) {
         return false;
     }
-    if !within(1, 10_000, it.length.0) {
+    if !within(ITEM_LENGTH, it.length.0) {
         return false;
     }
-    if !within(0, 3000, it.bare as u32) {
+    if !within(COEFFICIENTS, it.bare as u32) {
         return false;
     }
-    if !within(0, 3000, it.iced as u32) {
+    if !within(COEFFICIENTS, it.iced as u32) {
         return false;
     }
-    within(0, 1000, it.position as u32)
+    within(POSITION_FACTOR, it.position as u32)
 }
 
 pub fn items_fit(items: [Item; 64], held: usize) -> bool
@@ -93,10 +96,10 @@ pub fn groups_fit(s: Section) -> bool
 pub fn sizes_fit(s: Section) -> bool
     ensures { λ r. ⌜ r ≡ sizesFit s ⌝ }
 {
-    if !within(100, 15_000, s.width.0) {
+    if !within(SECTION_WIDTH, s.width.0) {
         return false;
     }
-    if !within(100, 10_000, s.height.0) {
+    if !within(SECTION_HEIGHT, s.height.0) {
         return false;
     }
     if s.height.0 % 2 != 0 {
@@ -109,7 +112,7 @@ pub fn sizes_fit(s: Section) -> bool
 }
 
 // A_S under ice of thickness t.
-fn solid_under(t: Length, s: Section) -> Area
+pub fn solid_under(t: Length, s: Section) -> Area
     requires { ⌜ (t .0 ≤ 50) × (s .count ≤ 8) × (allOf groupFits (take (s .count) (s .groups)) ≡ true) ⌝ }
     ensures { λ r. ⌜ r ≡ solidOf t (take (s .count) (s .groups)) ⌝ }
 {

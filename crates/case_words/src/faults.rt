@@ -9,10 +9,15 @@ use crate::Fault;
 use areas::ranges::fits_under;
 use areas::ranges::groups_fit;
 use areas::ranges::sizes_fit;
-use areas::ranges::within;
 use areas::section::thickness;
 use model::Legs;
 use model::Section;
+use model::ranges::DIRECTIONS;
+use model::ranges::ICE_CLASSES;
+use model::ranges::LEG_COUNT;
+use model::ranges::PRESSURES;
+use model::ranges::STRUCTURE_FACTOR;
+use model::ranges::within;
 use units::Length;
 
 // Four for any number but 3.
@@ -30,9 +35,9 @@ fn direction_fits(legs: u32, k: u32) -> bool
     ensures { λ r. ⌜ r ≡ directionFits (legsOf legs) k ⌝ }
 {
     if legs == 3 {
-        return within(0, 23, k) && k % 2 == 0;
+        return within(DIRECTIONS, k) && k % 2 == 0;
     }
-    within(0, 23, k)
+    within(DIRECTIONS, k)
 }
 
 // The place after the groups.
@@ -70,19 +75,19 @@ pub fn fault_of(c: Case, n: usize) -> Fault
     if n < 8 {
         return Fault::Missing;
     }
-    if !within(3, 4, c.legs) {
+    if !within(LEG_COUNT, c.legs) {
         return Fault::Legs;
     }
     if !direction_fits(c.legs, c.direction) {
         return Fault::Direction;
     }
-    if !within(0, 5, c.ice) {
+    if !within(ICE_CLASSES, c.ice) {
         return Fault::Ice;
     }
-    if !within(500, 2000, c.factor) {
+    if !within(STRUCTURE_FACTOR, c.factor) {
         return Fault::Factor;
     }
-    if !within(0, 5000, c.pressure as u32) {
+    if !within(PRESSURES, c.pressure as u32) {
         return Fault::Pressure;
     }
     let s = c.section;

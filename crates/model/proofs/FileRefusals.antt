@@ -6,7 +6,8 @@ use native.Mathlib.Omega.{arith}
 use lib.Dec.{leb, ltb, eqb}
 use lib.ListN.{length}
 use Rattle.model.specs.declared.Item.{Item}
-use Rattle.model.specs.Ranges.{Range, within, legCount, sectionCount, sectionWidth, sectionHeight, groupCount, memberKind, memberSize, memberLength, itemCount, itemWidth, itemLength, coefficients, positionFactor}
+use Rattle.model.specs.declared.Range.{Range}
+use Rattle.model.specs.Ranges.{within, legCount, sectionCount, sectionWidth, sectionHeight, groupCount, memberKind, memberSize, memberLength, itemCount, itemWidth, itemLength, coefficients, positionFactor}
 use Rattle.model.specs.Areas.{bareSolid}
 use Rattle.model.specs.Reading.{Parsed, got, refused, then, require, field, ranged, many}
 use Rattle.model.specs.File.{numbered, readGroup, readGroups, readSection, readSections, readItemFields, readItem, readItems, readFile}

@@ -14,6 +14,11 @@ pub mod Samples
 pub mod Examples
 pub mod FileRefusals
 pub mod FileLength
+pub mod Readings
+pub mod Fields
+pub mod Distinct
+pub mod Accepted
+pub mod RoundTrips
 pub mod Says
 pub mod Refused
 pub mod HostCall

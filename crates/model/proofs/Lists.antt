@@ -1,11 +1,11 @@
 -- Sums over lists and over indices; tests over lists; nothing of it depends on the order.
 use Prim.Native.Nat.{ℕ, zero, suc, _+_, _*_, _≤_, _<_}
 use mathlib.Core.Path.{_≡_, refl, ap, sym, _∙_}
-use mathlib.Core.Bool.{Bool, true, false, _&&_, and-true, and-false, and-assoc}
+use mathlib.Core.Bool.{Bool, true, false, _&&_, _||_, and-true, and-false, and-assoc, or-true, or-false, or-assoc}
 use mathlib.Core.List.{List, [], _∷_, _++_, map, List·Permᴰ, List·Permᴰ·nil, List·Permᴰ·cons, List·Permᴰ·swap, List·Permᴰ·trans, Forall₂, Forall₂·nil, Forall₂·cons}
 use native.Mathlib.Numerals.{add-one}
 use native.Mathlib.Omega.{arith}
-use lib.ListN.{length, getD, take, length-append, length-map}
+use lib.ListN.{length, getD, set, take, drop, length-append, length-map, take-append-drop}
 use lib.Seq.{take-suc, getD-take, length-take-le}
 use Rattle.model.specs.Lists.{anyOf, allOf, sumBy, sumTo, listTo}
 use Rattle.exact.proofs.Bools.{and-split, and-join, or-split}
@@ -114,6 +114,9 @@ all-append p (x ∷ xs) ys h g =
     let k : _ = and-split (p x) (allOf p xs) h in
     and-join (k .0) (all-append p xs ys (k .1) g)
 
+pub all-grow : {A : Type 0} (p : A → Bool) (l : List A) (a : A) → allOf p l ≡ true → p a ≡ true → allOf p (l ++ (a ∷ [])) ≡ true
+all-grow p l a h t = all-append p l (a ∷ []) h (and-join t refl)
+
 -- arrays: the length, from what is known of a parameter
 pub length-mapped : (X Y : Type 0) (f : X → Y) (l : List X) (n : ℕ) → length (map f l) ≡ n → length l ≡ n
 length-mapped X Y f l n e = rw length-map at e
@@ -126,13 +129,43 @@ module _ {A : Type 0} (p : A → Bool) where
       let e : p (getD (take n l) i d) ≡ true = all-at p (take n l) i d k t in
       rw (getD-take) at e
 
-  all-of-append : (xs ys : List A) → allOf p (xs ++ ys) ≡ (allOf p xs && allOf p ys)
+  pub all-of-append : (xs ys : List A) → allOf p (xs ++ ys) ≡ (allOf p xs && allOf p ys)
   all-of-append [] ys = refl
   all-of-append (x ∷ xs) ys = rw (all-of-append xs ys) (sym (and-assoc (p x) (allOf p xs) (allOf p ys)))
+
+  pub all-parts : (xs ys : List A) → allOf p (xs ++ ys) ≡ true → (allOf p xs ≡ true) × (allOf p ys ≡ true)
+  all-parts xs ys h = and-split (allOf p xs) (allOf p ys) (sym (all-of-append xs ys) ∙ h)
+
+  pub all-in : (l : List A) (a : A) (m : List A) → allOf p (l ++ (a ∷ m)) ≡ true → p a ≡ true
+  all-in l a m h = and-split (p a) (allOf p m) (all-parts l (a ∷ m) h .1) .0
+
+  pub all-take : (n : ℕ) (l : List A) → allOf p l ≡ true → allOf p (take n l) ≡ true
+  all-take n l h = all-parts (take n l) (drop n l) (ap (allOf p) (take-append-drop n l) ∙ h) .0
+
+  pub all-set : (l : List A) (i : ℕ) (a : A) → allOf p l ≡ true → p a ≡ true → allOf p (set l i a) ≡ true
+  all-set [] i a h q = refl
+  all-set (x ∷ xs) zero a h q = and-join q (and-split (p x) (allOf p xs) h .1)
+  all-set (x ∷ xs) (suc i) a h q =
+      let k : _ = and-split (p x) (allOf p xs) h in
+      and-join (k .0) (all-set xs i a (k .1) q)
+
+  pub any-append : (xs ys : List A) → anyOf p (xs ++ ys) ≡ (anyOf p xs || anyOf p ys)
+  any-append [] ys = refl
+  any-append (x ∷ xs) ys = rw (any-append xs ys) (sym (or-assoc (p x) (anyOf p xs) (anyOf p ys)))
 
   -- one turn of a loop over an array
   pub all-more : (l : List A) (i : ℕ) (d : A) → i < length l → allOf p (take (i + 1) l) ≡ (allOf p (take i l) && p (getD l i d))
   all-more l i d h = rw (add-one, take-suc l i d h, all-of-append, and-true)
+
+  pub any-more : (l : List A) (i : ℕ) (d : A) → i < length l → anyOf p (take (i + 1) l) ≡ (anyOf p (take i l) || p (getD l i d))
+  any-more l i d h = rw (add-one, take-suc l i d h, any-append, or-false)
+
+  -- one that holds of one of the first n holds of some of them
+  pub any-holds : (l : List A) (n i : ℕ) (d : A) → i < n → n ≤ length l → p (getD l i d) ≡ true → anyOf p (take n l) ≡ true
+  any-holds [] n i d h g f = absurd (omega arith)
+  any-holds (x ∷ xs) zero i d h g f = absurd (omega arith)
+  any-holds (x ∷ xs) (suc n) zero d h g f = rw f
+  any-holds (x ∷ xs) (suc n) (suc i) d h g f = rw (any-holds xs n i d (omega arith) (omega arith) f) (or-true (p x))
 
   -- one that fails of one of the first n fails of them together
   pub all-fails : (l : List A) (n i : ℕ) (d : A) → i < n → n ≤ length l → p (getD l i d) ≡ false → allOf p (take n l) ≡ false

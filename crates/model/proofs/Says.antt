@@ -1,14 +1,17 @@
 -- What the answers of check and write say, taken apart.
 use Prim.Native.Nat.{ℕ, _+_, _<_}
-use mathlib.Core.Path.{_≡_}
+use mathlib.Core.Path.{_≡_, ap}
 use mathlib.Core.Bool.{not}
 use mathlib.Core.Option.{some}
-use lib.Dec.{eqb}
+use native.Mathlib.Omega.{arith}
+use lib.Dec.{eqb, lit<}
 use lib.ListN.{length}
 use borrow.Author.Tests.{eqb-false, ltb-true, lt-ltb, ne-eqb, not-true}
 use Rattle.model.specs.declared.CheckAnswer.the-variants as check
+use Rattle.model.specs.declared.WriteAnswer.{WriteAnswer}
 use Rattle.model.specs.declared.WriteAnswer.the-variants as write
 use Rattle.model.specs.declared.Refusal.{Refusal}
+use Rattle.model.specs.declared.Refusal.the-variants as refusal
 use Rattle.model.specs.Answers.{refusalNumber}
 use Rattle.model.specs.Tower.{Tower, Wind}
 use Rattle.model.specs.Report.{sectionAt, shearAt, exceeds, IsOver}
@@ -47,3 +50,33 @@ check-refused (turned-down e) = e
 
 pub write-length : {m : State} {room n : ℕ} → WriteSays m room (write.Written n) → (writeRefusal m room ≡ 0) × (n ≡ length (fileIn m))
 write-length (written e h) = (e, h)
+
+-- no refusal has the number 0, which says that a call is accepted
+pub refusal-positive : (r : Refusal) → 0 < refusalNumber r
+refusal-positive refusal.NoTower = lit< tt
+refusal-positive refusal.FileEnds = lit< tt
+refusal-positive refusal.Legs = lit< tt
+refusal-positive refusal.SectionCount = lit< tt
+refusal-positive refusal.SectionSize = lit< tt
+refusal-positive refusal.GroupCount = lit< tt
+refusal-positive refusal.GroupField = lit< tt
+refusal-positive refusal.BareSolidity = lit< tt
+refusal-positive refusal.ItemCount = lit< tt
+refusal-positive refusal.ItemNumber = lit< tt
+refusal-positive refusal.ItemSection = lit< tt
+refusal-positive refusal.ItemField = lit< tt
+refusal-positive refusal.BytesFollow = lit< tt
+refusal-positive refusal.NoSuchItem = lit< tt
+refusal-positive refusal.Direction = lit< tt
+refusal-positive refusal.IceClass = lit< tt
+refusal-positive refusal.StructureFactor = lit< tt
+refusal-positive refusal.PressureCount = lit< tt
+refusal-positive refusal.Pressure = lit< tt
+refusal-positive refusal.IcedSolidity = lit< tt
+refusal-positive refusal.NoWind = lit< tt
+refusal-positive refusal.OutputShort = lit< tt
+
+-- write fills where there is room
+pub write-room : {m : State} {room : ℕ} {r : WriteAnswer} → writeRefusal m room ≡ 0 → WriteSays m room r → r ≡ write.Written (length (fileIn m))
+write-room e (written z n) = ap write.Written n
+write-room e (turned-down {r = r} n) = absurd (omega (arith, refusal-positive r, n, e))

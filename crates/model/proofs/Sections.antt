@@ -7,18 +7,19 @@ use native.Mathlib.Omega.{arith}
 use native.Mathlib.Nat.{mul-pos, mul-le-mul}
 use lib.Dec.{leb, ltb, eqb}
 use lib.ListN.{length}
-use borrow.Author.Tests.{leb-true, ltb-true, eqb-true}
+use borrow.Author.Tests.{leb-true, ltb-true, eqb-true, le-leb}
 use Rattle.units.specs.declared.Length.{Length}
 use Rattle.model.specs.declared.Group.{Group}
 use Rattle.model.specs.declared.Item.{Item}
 use Rattle.model.specs.Lists.{sumBy, allOf}
-use Rattle.model.specs.Ranges.{Range, within, sectionWidth, sectionHeight, groupCount, memberSize, memberLength, itemWidth, itemLength, coefficients, positionFactor}
+use Rattle.model.specs.declared.Range.{Range}
+use Rattle.model.specs.Ranges.{within, sectionWidth, sectionHeight, groupCount, memberSize, memberLength, itemWidth, itemLength, coefficients, positionFactor}
 use Rattle.model.specs.Tower.{Section}
 use Rattle.model.specs.Areas.{sizeOf, groupArea, itemArea, gross, solidOf, bareSolid, largestGross}
 use Rattle.model.specs.Force.{coefficient, itemPart, largestItem}
 use Rattle.model.specs.File.{fieldsInRange}
 use Rattle.model.specs.Valid.{groupFits, sectionFits}
-use Rattle.exact.proofs.Bools.{and-split}
+use Rattle.exact.proofs.Bools.{and-split, and-join}
 use Rattle.model.proofs.Bounds.{cond-bound}
 
 -- a number in its range
@@ -30,6 +31,9 @@ pub in-range : (r : Range) (x : ℕ) → within r x ≡ true → InRange r x
 in-range r x h =
     let g : _ = and-split (leb (r .low) x) (leb x (r .high)) h in
     record { low = leb-true _ _ (g .0); high = leb-true _ _ (g .1) }
+
+pub within-range : {r : Range} {x : ℕ} → InRange r x → within r x ≡ true
+within-range h = and-join (le-leb _ _ (h .low)) (le-leb _ _ (h .high))
 
 -- a group has an area, however thick the ice
 group-positive : (t : Length) (g : Group) → groupFits g ≡ true → 0 < groupArea t g .0
@@ -83,20 +87,34 @@ coefficient-bound : (t : Length) (it : Item) (n : ℕ) → it .bare ≤ n → it
 unfolding coefficient
 coefficient-bound t it n h g = cond-bound (eqb (t .0) 0) (omega arith) (omega arith)
 
--- an item's part is at most that of the largest
-pub item-bound : (t : Length) (it : Item) → t .0 ≤ 50 → fieldsInRange it ≡ true → itemPart t it ≤ largestItem
-unfolding itemPart itemArea
-item-bound t it ht h =
+-- an item
+pub record ItemFacts (it : Item) : Type 0 where
+  pub width : InRange itemWidth (it .width .0)
+  pub length : InRange itemLength (it .length .0)
+  pub bare : InRange coefficients (it .bare)
+  pub iced : InRange coefficients (it .iced)
+  pub position : InRange positionFactor (it .position)
+
+pub item-facts : (it : Item) → fieldsInRange it ≡ true → ItemFacts it
+item-facts it h =
     let a : _ = and-split _ (within positionFactor (it .position)) h in
     let b : _ = and-split _ (within coefficients (it .iced)) (a .0) in
     let c : _ = and-split _ (within coefficients (it .bare)) (b .0) in
     let d : _ = and-split (within itemWidth (it .width .0)) (within itemLength (it .length .0)) (c .0) in
-    let iced : _ = in-range coefficients (it .iced) (b .1) in
-    let bare : _ = in-range coefficients (it .bare) (c .1) in
-    let k : _ = in-range positionFactor (it .position) (a .1) in
-    let w : _ = in-range itemWidth (it .width .0) (d .0) in
-    let l : _ = in-range itemLength (it .length .0) (d .1) in
-    let x : coefficient t it ≤ 3000 = coefficient-bound t it 3000 (bare .high) (iced .high) in
+    record {
+      width = in-range _ _ (d .0);
+      length = in-range _ _ (d .1);
+      bare = in-range _ _ (c .1);
+      iced = in-range _ _ (b .1);
+      position = in-range _ _ (a .1);
+    }
+
+-- an item's part is at most that of the largest
+pub item-bound : (t : Length) (it : Item) → t .0 ≤ 50 → fieldsInRange it ≡ true → itemPart t it ≤ largestItem
+unfolding itemPart itemArea
+item-bound t it ht h =
+    let k : ItemFacts it = item-facts it h in
+    let x : coefficient t it ≤ 3000 = coefficient-bound t it 3000 (k .bare .high) (k .iced .high) in
     let y : (it .width .0 + 2 * t .0) * it .length .0 ≤ 3100 * 10_000 =
     mul-le-mul {n₁ = it .width .0 + 2 * t .0} {m₁ = it .length .0} {n₂ = 3100} {m₂ = 10_000} (omega arith) (omega arith) in
-    mul-le-mul {n₂ = 3000 * 1000} {m₂ = 31_000_000} (mul-le-mul {n₂ = 3000} {m₂ = 1000} x (k .high)) y
+    mul-le-mul {n₂ = 3000 * 1000} {m₂ = 31_000_000} (mul-le-mul {n₂ = 3000} {m₂ = 1000} x (k .position .high)) y

@@ -2,12 +2,9 @@
 use Prim.Native.Nat.{ℕ}
 use mathlib.Core.Bool.{Bool, _&&_}
 use lib.Dec.{leb}
+use Rattle.model.specs.declared.Range.{Range}
 
 infix 20 _to_
-pub record Range : Type 0 where
-  pub low : ℕ
-  pub high : ℕ
-
 abbrev pub _to_ : ℕ → ℕ → Range
 low to high = record { low = low; high = high }
 

@@ -4,7 +4,8 @@ use mathlib.Core.Bool.{Bool, true, false}
 use mathlib.Core.List.{List, [], _∷_, _++_}
 use lib.Dec.{leb}
 use lib.ListN.{length, take, drop}
-use Rattle.model.specs.Ranges.{Range, within}
+use Rattle.model.specs.declared.Range.{Range}
+use Rattle.model.specs.Ranges.{within}
 
 pub data Parsed (A : Type 0) : Type 0 where
   got : A → List ℕ → Parsed A

@@ -4,6 +4,15 @@ use units::Area;
 use units::Force;
 use units::Length;
 
+pub mod answers;
+pub mod ranges;
+
+// Numbers from low to high.
+pub struct Range {
+    pub low: u32,
+    pub high: u32,
+}
+
 // The legs of the tower; it has as many equal faces.
 pub enum Legs {
     Three,

@@ -1,7 +1,7 @@
 use mathlib.Core.Path.{refl}
 use borrow.Author.Tests.{eq-eqb, ne-eqb}
 use Rattle.model.specs.Force as force
-use Rattle.areas.proofs.Facts.{item-facts}
+use Rattle.model.proofs.Sections.{item-facts}
 use borrow.Author.Needs.{needs}
 use Rattle.areas.proofs.items.coefficient.Statement.{statement}
 use Rattle.areas.proofs.items.coefficient.Tie as tie

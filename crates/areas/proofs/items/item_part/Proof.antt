@@ -5,7 +5,7 @@ use native.Mathlib.Omega.{arith}
 use Rattle.model.specs.Areas.{itemArea}
 use Rattle.model.specs.Force.{itemPart, largestItem}
 use Rattle.model.proofs.Sections.{item-bound}
-use Rattle.areas.proofs.Facts.{item-facts}
+use Rattle.model.proofs.Sections.{item-facts}
 use borrow.Author.Needs.{needs}
 use Rattle.areas.proofs.items.item_part.Statement.{statement}
 use Rattle.areas.proofs.items.item_part.Tie as tie

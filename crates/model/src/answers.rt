@@ -1,0 +1,33 @@
+// The numbers of document 01's refusals. specs/Answers has the same table.
+ghost use mathlib.Core.Path.{_≡_};
+ghost use Rattle.model.specs.Answers.{refusalNumber};
+use crate::Refusal;
+
+pub fn refusal_number(e: Refusal) -> u32
+    ensures { λ r. ⌜ r ≡ refusalNumber e ⌝ }
+{
+    match e {
+        Refusal::NoTower => 1,
+        Refusal::FileEnds => 2,
+        Refusal::Legs => 3,
+        Refusal::SectionCount => 4,
+        Refusal::SectionSize => 5,
+        Refusal::GroupCount => 6,
+        Refusal::GroupField => 7,
+        Refusal::BareSolidity => 8,
+        Refusal::ItemCount => 9,
+        Refusal::ItemNumber => 10,
+        Refusal::ItemSection => 11,
+        Refusal::ItemField => 12,
+        Refusal::BytesFollow => 13,
+        Refusal::NoSuchItem => 14,
+        Refusal::Direction => 15,
+        Refusal::IceClass => 16,
+        Refusal::StructureFactor => 17,
+        Refusal::PressureCount => 18,
+        Refusal::Pressure => 19,
+        Refusal::IcedSolidity => 20,
+        Refusal::NoWind => 21,
+        Refusal::OutputShort => 22,
+    }
+}
