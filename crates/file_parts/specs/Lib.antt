@@ -1,0 +1,3 @@
+pub mod PartOutcomes
+pub mod Parts
+pub mod Stored
