@@ -11,6 +11,7 @@ pub mod cases;
 pub mod draw;
 pub mod expected;
 pub mod file;
+pub mod file_cases;
 pub mod force;
 pub mod host;
 pub mod natural;

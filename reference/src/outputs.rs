@@ -1,6 +1,6 @@
 //! The table of expected outputs, one entry per program crate.
 
-use crate::cases;
+use crate::{cases, file_cases};
 
 /// One file of a program's folder.
 #[derive(Clone, Debug, PartialEq, Eq)]
@@ -21,7 +21,13 @@ pub struct Generator {
 }
 
 /// All programs with an expected output.
-pub const GENERATORS: &[Generator] = &[Generator {
-    program: "force_cases",
-    files: cases::files,
-}];
+pub const GENERATORS: &[Generator] = &[
+    Generator {
+        program: "force_cases",
+        files: cases::files,
+    },
+    Generator {
+        program: "file_cases",
+        files: file_cases::files,
+    },
+];

@@ -1,9 +1,6 @@
 // Reads cases from standard input, one a line, and prints for each its areas, the items' sum and the force, or what is wrong with it first.
 // A line is LEGS K ICE FACTOR PRESSURE WIDTH HEIGHT GROUPCOUNT (KIND SIZE LENGTH)* ITEMCOUNT (SECTION WIDTH LENGTH BARE ICED POSITION)*.
 // The case's section is number 0: items on other sections do not count.
-mod numbers;
-mod text;
-
 ghost use Prim.Native.Nat.{_≤_};
 ghost use mathlib.Core.Path.{_≡_};
 ghost use mathlib.Core.Bool.{true};
@@ -11,9 +8,6 @@ ghost use lib.ListN.{length, take};
 ghost use Rattle.model.specs.Lists.{allOf};
 ghost use Rattle.model.specs.File.{fieldsInRange};
 ghost use Rattle.case_words.specs.Faults.{SoundCase};
-use crate::text::put;
-use crate::text::put_bytes;
-use crate::text::put_number;
 use areas::items::item_sum;
 use areas::ranges::items_fit;
 use areas::section::thickness;
@@ -28,25 +22,15 @@ use force::Load;
 use force::section::section_load;
 use libc::STDIN_FILENO;
 use libc::STDOUT_FILENO;
+use lines::Count;
+use lines::numbers::numbers_of;
+use lines::text::put;
+use lines::text::put_bytes;
+use lines::text::put_number;
 use model::Item;
 
 // What a line holds at most: 8 numbers, those of 8 groups, the number of items and those of 64 items.
 const MOST_NUMBERS: usize = 8 + 3 * 8 + 1 + 6 * 64;
-
-// A number, which is below 10^19, and the place after it.
-enum Number {
-    At(u64, usize),
-    Large,
-}
-
-// How many numbers a line has, or what is wrong with it first: it is no run of numbers with single spaces, one is too large, or they are
-// too many.
-enum Count {
-    Of(usize),
-    Bad,
-    Large,
-    Many,
-}
 
 // Each function from here to `answer` puts a line of output into out and answers its length.
 fn refuse(out: &mut [u8], why: &[u8]) -> usize
@@ -133,7 +117,7 @@ fn answer_numbers(numbers: &[u64], out: &mut [u8]) -> usize
 fn answer(line: &[u8], numbers: &mut [u64], out: &mut [u8]) -> usize
     ensures { λ r. ⌜ r ≤ length (now (out .entry)) ⌝ }
 {
-    let count = numbers::numbers_of(line, numbers);
+    let count = numbers_of(line, numbers);
     match count {
         Count::Of(n) => answer_numbers(&numbers[0..n], out),
         Count::Bad => refuse(out, b"not decimal numbers with single spaces between them"),

@@ -1,35 +1,29 @@
-//! Times the proved section force beside a plain floating-point version and the
-//! exact Rust version, all in one run on the same sections and pressures.
+//! Times the proved libraries beside Rust versions, all in one run on the same
+//! inputs: the section force beside a plain floating-point version and the exact
+//! one, and the tower file's reader and writer beside those of the Rust version.
 
+mod file;
+#[cfg(test)]
+mod file_tests;
 #[allow(unsafe_code)]
 mod library;
 mod section;
+mod speed;
 #[cfg(test)]
 mod tests;
 mod timing;
+mod words;
 
+use file::{timed_files, TimedFile, Work};
 use section::{sections, Timed};
 use std::process::ExitCode;
 use timing::{head, line, mean, times, worst, Times};
-
-const USAGE: &str = "\
-usage: bench [--each]
-       bench --help
-
-Checks that the proved library and the exact Rust version have the same forces,
-then prints the nanoseconds per section force of the library, of a plain f64
-version and of the exact version, each the best of several repetitions, for
-sections with supercritical members and without: the mean, and the section that
-takes the library longest. Status 1 if a force differs.
-
-  --each  also print a line for each section
-  --help  print this
-";
+use words::{parse, Command, USAGE};
 
 /// Sections of each kind.
 const SECTIONS: usize = 32;
 
-/// Repetitions for each section.
+/// Repetitions for each section and each file.
 const REPETITIONS: u32 = 15;
 
 fn main() -> ExitCode {
@@ -37,37 +31,48 @@ fn main() -> ExitCode {
         .skip(1)
         .map(|word| word.to_string_lossy().into_owned())
         .collect();
-    let words: Vec<&str> = words.iter().map(String::as_str).collect();
-    match words[..] {
-        [] => run(false),
-        ["--each"] => run(true),
-        ["--help"] => {
+    match parse(&words) {
+        Ok(Command::Help) => {
             print!("{USAGE}");
             ExitCode::SUCCESS
         }
-        _ => {
-            eprint!("bench: unknown words: {}\n{USAGE}", words.join(" "));
+        Ok(Command::Run { force, file, each }) => {
+            let differ = [force && !run_force(each), file && !run_file(each)];
+            if differ.contains(&true) {
+                ExitCode::FAILURE
+            } else {
+                ExitCode::SUCCESS
+            }
+        }
+        Err(wrong) => {
+            eprint!("bench: {wrong}\n{USAGE}");
             ExitCode::from(2)
         }
     }
 }
 
-fn run(each: bool) -> ExitCode {
+/// Says each difference; whether there is none.
+fn none_differs(differences: &[String]) -> bool {
+    for difference in differences {
+        eprintln!("bench: {}", difference.trim_end());
+    }
+    differences.is_empty()
+}
+
+/// Compares the section forces and, if they are the same, times them.
+fn run_force(each: bool) -> bool {
     let kinds = [("supercritical", true), ("no supercritical", false)]
         .map(|(name, supercritical)| (name, sections(supercritical, SECTIONS)));
     let all = kinds.iter().flat_map(|(_, sections)| sections);
     let differences: Vec<String> = all.filter_map(Timed::difference).collect();
-    for difference in &differences {
-        eprint!("bench: {difference}");
+    let same = none_differs(&differences);
+    if same {
+        println!("{}", head());
+        for (name, sections) in &kinds {
+            show(name, sections, each);
+        }
     }
-    if !differences.is_empty() {
-        return ExitCode::FAILURE;
-    }
-    println!("{}", head());
-    for (name, sections) in &kinds {
-        show(name, sections, each);
-    }
-    ExitCode::SUCCESS
+    same
 }
 
 /// Times these sections and prints their lines.
@@ -83,4 +88,25 @@ fn show(name: &str, sections: &[Timed], each: bool) {
     }
     println!("{}", line(&format!("{name}, mean"), mean(&all)));
     println!("{}", line(&format!("{name}, worst"), worst(&all)));
+}
+
+/// Compares the bytes of all files and, if they are the same, times the largest
+/// or each.
+fn run_file(each: bool) -> bool {
+    let files = timed_files();
+    let both = |file: &TimedFile| Work::ALL.map(|work| file.difference(work));
+    let differences: Vec<String> = files.iter().flat_map(both).flatten().collect();
+    let same = none_differs(&differences);
+    if same {
+        println!("{}", speed::head());
+        let shown = if each { &files[..] } else { &files[..1] };
+        for file in shown {
+            for work in Work::ALL {
+                let name = format!("{}, {} bytes, {}", file.name, file.bytes(), work.name());
+                let speeds = speed::speeds(file, work, REPETITIONS);
+                println!("{}", speed::line(&name, speeds));
+            }
+        }
+    }
+    same
 }

@@ -41,7 +41,7 @@ pub fn times(section: &Timed, repetitions: u32) -> Times {
 }
 
 /// Nanoseconds per round.
-fn time(rounds: u64, sum: impl Fn(u64) -> u64) -> f64 {
+pub fn time(rounds: u64, mut sum: impl FnMut(u64) -> u64) -> f64 {
     let start = Instant::now();
     black_box(sum(black_box(rounds)));
     start.elapsed().as_nanos() as f64 / rounds as f64

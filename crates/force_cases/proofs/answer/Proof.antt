@@ -1,5 +1,5 @@
 use borrow.Author.Needs.{needs}
-use Rattle.force_cases.proofs.Readings.{counted-most}
+use Rattle.lines.proofs.Readings.{counted-most}
 use Rattle.force_cases.proofs.answer.Statement.{statement}
 use Rattle.force_cases.proofs.answer.Tie as tie
 

@@ -1,0 +1,3 @@
+pub mod Letters
+pub mod Mixing
+pub mod Rooms
