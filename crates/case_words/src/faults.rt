@@ -20,16 +20,6 @@ use model::ranges::STRUCTURE_FACTOR;
 use model::ranges::within;
 use units::Length;
 
-// Four for any number but 3.
-pub fn legs_of(n: u32) -> Legs
-    ensures { λ r. ⌜ r ≡ legsOf n ⌝ }
-{
-    if n == 3 {
-        return Legs::Three;
-    }
-    Legs::Four
-}
-
 // k is 0 to 23, and even on three legs.
 fn direction_fits(legs: u32, k: u32) -> bool
     ensures { λ r. ⌜ r ≡ directionFits (legsOf legs) k ⌝ }

@@ -6,14 +6,14 @@ ghost use lib.ListN.{take};
 ghost use Rattle.model.specs.Lists.{joined};
 ghost use Rattle.model.specs.Tower.{sectionOf, towerOf};
 ghost use Rattle.model.specs.Areas.{sizeOf};
-ghost use Rattle.model.specs.Bytes.{kindOf, legsNumber};
+ghost use Rattle.model.specs.Bytes.{kindOf};
 ghost use Rattle.file_cases.specs.Digest.{start, mixed, digest, groupValues, sectionValues, itemValues, towerValues};
 use model::Group;
 use model::Item;
-use model::Legs;
 use model::Member;
 use model::Section;
 use model::Tower;
+use model::numbers::legs_number;
 
 const START: u64 = 14_695_981_039_346_656_037;
 
@@ -125,15 +125,6 @@ fn mix_items(d: u64, items: [Item; 64], count: usize) -> u64
         d = mix_item(d, it);
     }
     d
-}
-
-fn legs_number(l: Legs) -> u64
-    ensures { λ r. ⌜ r ≡ legsNumber l ⌝ }
-{
-    match l {
-        Legs::Three => 3,
-        Legs::Four => 4,
-    }
 }
 
 pub fn tower_digest(t: Tower) -> u64

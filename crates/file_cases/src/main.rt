@@ -6,7 +6,7 @@
 //     r N             the base file, whose tower is written into N lent bytes
 // The answer is `refused N`, with document 01's number, or `ok LENGTH TOWER OUT`: the length that write answers, a digest of the tower, and
 // one of LENGTH + 5 lent bytes, all 165 before, into which it is written. For r it is `ok LENGTH OUT`, or `refused 22 OUT` where they are too
-// few. Any other line is answered by what is wrong with it first.
+// few. A file, and what is lent, has at most 4000 bytes. Any other line is answered by what is wrong with it first.
 mod cases;
 mod digest;
 mod files;

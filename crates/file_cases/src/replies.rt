@@ -12,7 +12,7 @@ use model::Answer;
 use model::Refusal;
 use model::Tower;
 use model::WriteAnswer;
-use model::answers::refusal_number;
+use model::numbers::refusal_number;
 use tower_file::file::file_length;
 use tower_file::file::read;
 use tower_file::file::write;

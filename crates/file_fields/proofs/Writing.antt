@@ -10,8 +10,9 @@ use lib.Seq.{take-all, take-at, drop-at, drop-drop, length-take-le, take-suc, se
 use borrow.Rule.Slice.PartMut.{putMid, midOf, postOf}
 use Rattle.model.specs.Lists.{joined}
 use Rattle.model.specs.Bytes.{bytes}
-use Rattle.model.proofs.FileLength.{length-bytes}
+use Rattle.model.proofs.FileLength.{length-bytes, joined-more}
 use Rattle.file_fields.specs.Written.{Puts}
+use Rattle.file_fields.proofs.Answered.{rest-is}
 
 -- a field is written from its last byte to its first: what is held when the bytes from i on are written
 abbrev pub Tail : List ℕ → ℕ → ℕ → ℕ → List ℕ
@@ -41,9 +42,6 @@ pub tail-done : (d : List ℕ) (w v : ℕ) → Puts (bytes w v) d (Tail d w v 0)
 tail-done d w v = record { count = sym (length-bytes w v); bytes = rw (length-bytes, sub-zero w) refl }
 
 -- the part from n on
-rest-is : (x : List ℕ) (n : ℕ) → midOf n (length x - n) x ≡ drop n x
-rest-is x n = take-all (length x - n) (drop n x) (omega (arith, length-drop n x))
-
 rest-long : (x : List ℕ) (n : ℕ) → length (midOf n (length x - n) x) ≡ length x - n
 rest-long x n = ap length (rest-is x n) ∙ length-drop n x
 
@@ -84,17 +82,12 @@ module _ {A : Type 0} (f : A → List ℕ) where
   unfolding joined
   puts-none d = record { count = refl; bytes = refl }
 
-  joined-append : (l : List A) (a : A) → joined f (l ++ (a ∷ [])) ≡ joined f l ++ f a
-  unfolding joined
-  joined-append [] a = append-nil (f a)
-  joined-append (x ∷ l) a = ap (λ m. f x ++ m) (joined-append l a) ∙ sym (append-assoc (f x) (joined f l) (f a))
-
   pub puts-next : (l : List A) (i : ℕ) (z : A) {d x new : List ℕ} {n k : ℕ} → i < length l → Puts (joined f (take i l)) d x n
       → Puts (f (getD l i z)) (midOf n (length x - n) x) new k → Puts (joined f (take (i + 1) l)) d (putMid n (length x - n) x new) (n + k)
-  puts-next l i z h p q = rw (add-one, take-suc l i z h, joined-append) (puts-more p q)
+  puts-next l i z h p q = rw (add-one, take-suc l i z h, joined-more) (puts-more p q)
 
   pub length-next : (l : List A) (i : ℕ) (z : A) → i < length l → length (joined f (take (i + 1) l)) ≡ length (joined f (take i l)) + length (f (getD l i z))
-  length-next l i z h = rw (add-one, take-suc l i z h, joined-append) (length-append (joined f (take i l)) (f (getD l i z)))
+  length-next l i z h = rw (add-one, take-suc l i z h, joined-more) (length-append (joined f (take i l)) (f (getD l i z)))
 
   joined-room : (l : List A) (i n : ℕ) (z : A) → i < n → n ≤ length l
       → length (joined f (take i l)) + length (f (getD l i z)) ≤ length (joined f (take n l))

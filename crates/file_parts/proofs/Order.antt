@@ -1,4 +1,4 @@
--- The file's parts in their order: a section is its head, then its groups; the file ends in the items with their number.
+-- The file's parts in their order: a section is its head, then its groups; the file ends in the items with their count.
 use Prim.Native.Nat.{ℕ, _%_, _≤_, _<_}
 use mathlib.Core.Path.{_≡_, refl, ap, sym, _∙_}
 use mathlib.Core.Bool.{Bool, true, false}

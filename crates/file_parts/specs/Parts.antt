@@ -1,4 +1,4 @@
--- Two parts of the file that are read by themselves: a section's fields before its groups, and the items with their number. Laws `head-first` and
+-- Two parts of the file that are read by themselves: a section's fields before its groups, and the items with their count. Laws `head-first` and
 -- `items-last` in proofs/Order: the file is read just so.
 use Prim.Native.Nat.{ℕ, _%_}
 use mathlib.Core.List.{List}

@@ -1,11 +1,11 @@
 // The ancillary items, in hanging order.
 ghost use Prim.Native.Nat.{_≤_};
 ghost use mathlib.Core.Path.{_≡_};
-ghost use mathlib.Core.List.{List, _++_};
+ghost use mathlib.Core.List.{List};
 ghost use lib.ListN.{length, take};
 ghost use Rattle.model.specs.Lists.{joined};
 ghost use Rattle.model.specs.File.{numbered, readItemFields, readItem, readItems};
-ghost use Rattle.model.specs.Bytes.{bytes, itemBytes};
+ghost use Rattle.model.specs.Bytes.{itemFieldBytes, itemBytes};
 ghost use Rattle.file_fields.specs.Outcomes.{Reads, whyBarred};
 ghost use Rattle.file_parts.specs.PartOutcomes.{itemOutcome, partOutcome};
 ghost use Rattle.file_parts.specs.Parts.{readItemPart};
@@ -26,6 +26,9 @@ use model::ranges::ITEM_LENGTH;
 use model::ranges::ITEM_WIDTH;
 use model::ranges::POSITION_FACTOR;
 use units::Length;
+
+// The bytes of an item.
+pub const ITEM_BYTES: usize = 13;
 
 pub const NO_ITEM: Item = Item {
     number: 0,
@@ -149,7 +152,7 @@ fn read_items(file: &[u8], sections: usize, count: usize) -> ItemsRead
     ItemsRead { part, held, items }
 }
 
-// Their number, then the items.
+// Their count, then the items.
 pub fn read_item_part(file: &[u8], sections: usize) -> ItemsRead
     ensures { λ r.
         ⌜ Reads (List Item) (now (file .entry)) (readItemPart sections (now (file .entry))) (partOutcome (take (r .held) (r .items)) (r .part))
@@ -177,9 +180,7 @@ pub fn read_item_part(file: &[u8], sections: usize) -> ItemsRead
 // The fields of an item behind its number and section.
 fn write_item_fields(out: &mut [u8], it: Item) -> usize
     requires { ⌜ 10 ≤ length (now out) ⌝ }
-    ensures { λ r.
-        ⌜ Puts (bytes 2 (it .width .0) ++ (bytes 2 (it .length .0) ++ (bytes 2 (it .bare) ++ (bytes 2 (it .iced) ++ bytes 2 (it .position)))))
-        (now (out .entry)) (now (out .exit)) r ⌝ }
+    ensures { λ r. ⌜ Puts (itemFieldBytes it) (now (out .entry)) (now (out .exit)) r ⌝ }
 {
     let at = write_field(out, 2, it.width.0 as u64);
     let at2 = at + write_field(&mut out[at..], 2, it.length.0 as u64);

@@ -10,8 +10,8 @@ use case_words::Fault;
 use case_words::case_of;
 use case_words::faults::fault_of;
 use case_words::faults::groups_end;
-use case_words::faults::legs_of;
 use force::section::section_load;
+use model::numbers::legs_of;
 
 // The largest sum of a section's items: 64 times coefficient 3, K 1 and 31 m².
 const LARGEST_ITEMS: u64 = 64 * 3000 * 1000 * 31_000_000;

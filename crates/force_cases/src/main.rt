@@ -16,7 +16,6 @@ use case_words::Fault;
 use case_words::case_of;
 use case_words::faults::fault_of;
 use case_words::faults::groups_end;
-use case_words::faults::legs_of;
 use case_words::items::items_of;
 use force::Load;
 use force::section::section_load;
@@ -28,6 +27,7 @@ use lines::text::put;
 use lines::text::put_bytes;
 use lines::text::put_number;
 use model::Item;
+use model::numbers::legs_of;
 
 // What a line holds at most: 8 numbers, those of 8 groups, the number of items and those of 64 items.
 const MOST_NUMBERS: usize = 8 + 3 * 8 + 1 + 6 * 64;

@@ -24,7 +24,7 @@ use Rattle.model.specs.Calls.{bits}
 use Rattle.exact.proofs.Bools.{and-split, and-join}
 use Rattle.model.proofs.Lists.{all-grow, all-parts}
 use Rattle.model.proofs.Sections.{in-range}
-use Rattle.model.proofs.FileLength.{largest-file}
+use Rattle.model.proofs.FileLength.{joined-more, largest-file}
 use Rattle.model.proofs.Readings.{Gives, given, when-got, weaker, anything, then-gives, require-gives, many-gives, size-member}
 use Rattle.model.proofs.Fields.{number-bound, number-bytes}
 use Rattle.model.proofs.Distinct.{distinct-more}
@@ -57,11 +57,6 @@ ranged-read w r n s h =
     given (record { fits = t; same = k .same; bytes = k .bytes })
 
 -- a run of parts: each passes a test against those before it, and the list that grows passes a test as a whole
-joined-more : {A : Type 0} (f : A → List ℕ) (l : List A) (a : A) → joined f (l ++ (a ∷ [])) ≡ joined f l ++ f a
-unfolding joined
-joined-more f [] a = append-nil (f a)
-joined-more f (x ∷ l) a = rw (joined-more f l a) (sym (append-assoc (f x) (joined f l) (f a)))
-
 module _ {A : Type 0} (bytesOf : A → List ℕ) (p : List A → List ℕ → Parsed A) (test : List A → A → Bool) (whole : List A → Bool) where
   many-read : ((l : List A) (a : A) → whole l ≡ true → test l a ≡ true → whole (l ++ (a ∷ [])) ≡ true)
       → ((l : List A) (s : List ℕ) → allOf (bits 8) s ≡ true → Gives (ReadFrom bytesOf (test l) s) (p l s))

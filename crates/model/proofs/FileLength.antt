@@ -1,7 +1,7 @@
 -- The length of a tower's file, and the largest.
 use Prim.Native.Nat.{ℕ, zero, suc, _+_, _*_, _≤_}
-use mathlib.Core.Path.{_≡_, refl}
-use mathlib.Core.List.{List, [], _∷_}
+use mathlib.Core.Path.{_≡_, refl, sym}
+use mathlib.Core.List.{List, [], _∷_, _++_, append-assoc, append-nil}
 use native.Mathlib.Omega.{arith}
 use lib.ListN.{length, length-append}
 use mathlib.Core.Bool.{true}
@@ -19,6 +19,12 @@ pub length-bytes : (w v : ℕ) → length (bytes w v) ≡ w
 unfolding bytes
 length-bytes zero v = refl
 length-bytes (suc w) v = omega (arith, length-bytes w v)
+
+-- a part more at the end
+pub joined-more : {A : Type 0} (f : A → List ℕ) (l : List A) (a : A) → joined f (l ++ (a ∷ [])) ≡ joined f l ++ f a
+unfolding joined
+joined-more f [] a = append-nil (f a)
+joined-more f (x ∷ l) a = rw (joined-more f l a) (sym (append-assoc (f x) (joined f l) (f a)))
 
 pub length-joined : {A : Type 0} (f : A → List ℕ) (l : List A) → length (joined f l) ≡ sumBy (λ x. length (f x)) l
 unfolding joined sumBy

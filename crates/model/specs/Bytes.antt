@@ -29,10 +29,13 @@ sectionBytes s =
     bytes 2 (s .width .0) ++ (bytes 2 (s .height .0) ++ (bytes 4 (s .allowance .0)
     ++ (bytes 1 (length (s .groups)) ++ joined groupBytes (s .groups))))
 
+-- the fields behind an item's number and section
+abbrev pub itemFieldBytes : Item → List ℕ
+itemFieldBytes it =
+    bytes 2 (it .width .0) ++ (bytes 2 (it .length .0) ++ (bytes 2 (it .bare) ++ (bytes 2 (it .iced) ++ bytes 2 (it .position))))
+
 unfoldable pub itemBytes : Item → List ℕ
-itemBytes it =
-    bytes 2 (it .number) ++ (bytes 1 (it .section) ++ (bytes 2 (it .width .0) ++ (bytes 2 (it .length .0)
-    ++ (bytes 2 (it .bare) ++ (bytes 2 (it .iced) ++ bytes 2 (it .position))))))
+itemBytes it = bytes 2 (it .number) ++ (bytes 1 (it .section) ++ itemFieldBytes it)
 
 abbrev pub legsNumber : Legs → ℕ
 legsNumber Three = 3

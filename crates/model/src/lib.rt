@@ -4,7 +4,7 @@ use units::Area;
 use units::Force;
 use units::Length;
 
-pub mod answers;
+pub mod numbers;
 pub mod ranges;
 
 // Numbers from low to high.

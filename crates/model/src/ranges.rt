@@ -1,4 +1,4 @@
-// Document 01's ranges, each once for the file and for the calls. specs/Ranges has the same names.
+// Document 01's ranges, for the file and for the calls. specs/Ranges has the same names.
 ghost use mathlib.Core.Path.{_≡_};
 ghost use Rattle.model.specs.Ranges as ranges;
 use crate::Range;

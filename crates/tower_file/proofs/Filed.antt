@@ -35,12 +35,12 @@ part-handed a {s} {p} h m y w =
 pub refused-as : (file : List ℕ) (r : FileRead) (e : Refusal) → readFile file ≡ refused (refusalNumber e)
     → (r .answer ≡ answer.Refused e) × (r .tower .count ≡ 0) × (r .tower .held ≡ 0) → ReadsFile file r
 unfolding countsStored
-refused-as file r e f (a, n, h) = record { tower = f ∙ rw a refl; counts = rw (n, h) refl }
+refused-as file r e f (a, n, h) = record { tower = f ∙ rw a refl; counts = rw (n, h) refl; empty = rw a (n, h) }
 
 pub accepted-as : (file : List ℕ) (t : stored.Tower) → readFile file ≡ got (towerOf t) [] → t .count ≤ 32 → t .held ≤ 64
     → allOf groupsStored (take (t .count) (t .sections)) ≡ true → ReadsFile file (record { answer = answer.Accepted; tower = t })
 unfolding countsStored
-accepted-as file t f n h g = record { tower = f; counts = and-join (le-leb _ _ n) (and-join (le-leb _ _ h) g) }
+accepted-as file t f n h g = record { tower = f; counts = and-join (le-leb _ _ n) (and-join (le-leb _ _ h) g); empty = tt }
 
 -- whether bytes follow
 module _ (s : List ℕ) (n : ℕ) where

@@ -25,6 +25,12 @@ abbrev pub filedAs : Answer → Tower → Parsed Tower
 filedAs answer.Accepted t = got t []
 filedAs (answer.Refused e) t = refused (refusalNumber e)
 
+-- beside a refusal stands an empty tower
+abbrev pub EmptyIfRefused : Answer → stored.Tower → Type 0
+EmptyIfRefused answer.Accepted t = Unit {0}
+EmptyIfRefused (answer.Refused e) t = (t .count ≡ 0) × (t .held ≡ 0)
+
 pub record ReadsFile (file : List ℕ) (r : FileRead) : Type 0 where
   pub tower : readFile file ≡ filedAs (r .answer) (towerOf (r .tower))
   pub counts : countsStored (r .tower) ≡ true
+  pub empty : EmptyIfRefused (r .answer) (r .tower)

@@ -3,8 +3,7 @@ ghost use Prim.Native.Nat.{_≤_};
 ghost use mathlib.Core.Path.{_≡_};
 ghost use lib.ListN.{length};
 ghost use Rattle.model.specs.Tower.{towerOf};
-ghost use Rattle.model.specs.File as tower-file;
-ghost use Rattle.model.specs.Bytes.{legsNumber, fileOf};
+ghost use Rattle.model.specs.Bytes.{fileOf};
 ghost use Rattle.file_fields.specs.Outcomes.{whyBarred};
 ghost use Rattle.file_parts.specs.PartOutcomes.{partOutcome};
 ghost use Rattle.tower_file.specs.Stored.{ReadsFile};
@@ -16,6 +15,7 @@ use file_fields::fields::field_refusal;
 use file_fields::fields::read_ranged;
 use file_fields::fields::write_field;
 use file_parts::Part;
+use file_parts::items::ITEM_BYTES;
 use file_parts::items::NO_ITEM;
 use file_parts::items::read_item_part;
 use file_parts::items::write_items;
@@ -28,6 +28,8 @@ use model::Legs;
 use model::Refusal;
 use model::Tower;
 use model::WriteAnswer;
+use model::numbers::legs_number;
+use model::numbers::legs_of;
 use model::ranges::LEG_COUNT;
 use model::ranges::SECTION_COUNT;
 
@@ -38,15 +40,6 @@ const NO_TOWER: Tower = Tower {
     held: 0,
     items: [NO_ITEM; 64],
 };
-
-fn legs_of(n: u32) -> Legs
-    ensures { λ r. ⌜ r ≡ tower-file.legsOf n ⌝ }
-{
-    if n == 3 {
-        return Legs::Three;
-    }
-    Legs::Four
-}
 
 fn refused(e: Refusal) -> FileRead
     ensures { λ r. ⌜ (r .answer ≡ Answer.Refused e) × (r .tower .count ≡ 0) × (r .tower .held ≡ 0) ⌝ }
@@ -107,15 +100,6 @@ pub fn read(file: &[u8]) -> FileRead
     FileRead { answer, tower }
 }
 
-fn legs_number(l: Legs) -> u64
-    ensures { λ r. ⌜ r ≡ legsNumber l ⌝ }
-{
-    match l {
-        Legs::Three => 3,
-        Legs::Four => 4,
-    }
-}
-
 // How many sections and items a tower has: no more than the arrays.
 fn section_count(t: Tower) -> usize
     ensures { λ r. ⌜ (r ≡ length (towerOf t .sections)) × (r ≤ 32) ⌝ }
@@ -140,7 +124,7 @@ pub fn file_length(t: Tower) -> usize
     ensures { λ r. ⌜ r ≡ length (fileOf (towerOf t)) ⌝ }
 {
     let sections = t.sections;
-    3 + sections_length(sections, section_count(t)) + 13 * item_count(t)
+    3 + sections_length(sections, section_count(t)) + ITEM_BYTES * item_count(t)
 }
 
 fn write_parts(t: Tower, out: &mut [u8]) -> usize

@@ -3,7 +3,7 @@
 
 use crate::file::{timed_files, TimedFile, Work};
 use crate::library;
-use crate::speed::{head, line, megabytes, speeds, Speeds};
+use crate::speed::{head, line, megabytes, Speeds};
 use crate::words::{parse, Command, USAGE};
 use reference::draw::{small_tower, Random};
 use reference::file::{read, write};
@@ -68,16 +68,6 @@ fn the_library_turns_down_a_refused_file_and_lent_bytes_that_are_too_few() {
         }
         assert_eq!(call(&longer, 1, &mut out), u64::MAX);
         assert_eq!(call(&file, 1, &mut out), file.len() as u64);
-    }
-}
-
-#[test]
-fn every_speed_is_above_0() {
-    for file in timed_files() {
-        for work in Work::ALL {
-            let Speeds { library, rust } = speeds(&file, work, 1);
-            assert!(library > 0.0 && rust > 0.0);
-        }
     }
 }
 

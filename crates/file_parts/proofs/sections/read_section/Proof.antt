@@ -1,15 +1,17 @@
 use Prim.Native.Nat.{_+_}
-use mathlib.Core.Path.{refl}
+use mathlib.Core.Path.{refl, sym, subst}
 use native.Mathlib.Omega.{arith}
 use lib.ListN.{take, drop}
 use borrow.Author.Tests.{le-leb}
-use Rattle.model.specs.File.{readGroups}
+use Rattle.model.specs.Tower.{Section}
+use Rattle.model.specs.File.{readGroups, readSection}
 use Rattle.model.proofs.Readings.{groups-fit}
-use Rattle.file_fields.specs.Outcomes.{Says, found}
+use Rattle.file_fields.specs.Outcomes.{Says, Reads, found}
+use Rattle.file_parts.specs.declared.Part.{Part}
 use Rattle.file_parts.specs.PartOutcomes.{headOutcome, partOutcome}
 use Rattle.file_parts.specs.Parts.{readHead}
 use Rattle.file_fields.proofs.Answered.{took, handed, onward, onward-no}
-use Rattle.file_parts.proofs.Order.{HeadFacts, head-first, head-facts, too-solid, not-solid}
+use Rattle.file_parts.proofs.Order.{HeadFacts, headed, head-first, head-facts, too-solid, not-solid}
 use borrow.Author.Needs.{needs}
 use Rattle.file_parts.proofs.sections.read_section.Statement.{statement}
 use Rattle.file_parts.proofs.sections.read_section.Tie as tie
@@ -66,8 +68,10 @@ returns-2 c =
     let h = k .before .h .given .0 .0 in
     let s = k .before .before .before .before .before .args .file .now in
     let n = onward-no (readGroups (h .count)) s (k .before .h .given .0 .1 .0)
-    (took (partOutcome (take (h .count) (r .read-groups .result .groups))) (r .read-groups .ensures) e) in
-    (rw e (record { says = rw (head-first s, head k .0, n) refl }), le-leb _ _ (facts k .count))
+    (took (partOutcome (take (h .count) (r .read-groups .result .groups))) (r .read-groups .ensures) e) in (
+      subst (λ (x : Part). Reads Section s (readSection s) (partOutcome (headed h (take (h .count) (r .read-groups .result .groups))) x)) (sym e) (record { says = rw (head-first s, head k .0, n) refl }),
+      le-leb _ _ (facts k .count),
+    )
 
 -- the groups that were read
 groups : (c : tie.After-known-told2)

@@ -1,7 +1,7 @@
 use mathlib.Core.Path.{refl}
 use borrow.Author.Tests.{eq-eqb, ne-eqb}
-use Rattle.tower_file.proofs.file.legs_of.Statement.{statement}
-use Rattle.tower_file.proofs.file.legs_of.Tie as tie
+use Rattle.model.proofs.numbers.legs_of.Statement.{statement}
+use Rattle.model.proofs.numbers.legs_of.Tie as tie
 
 returns : tie.Need-returns
 returns c = rw (eq-eqb _ _ (c .if1 .taken)) refl

@@ -1,7 +1,29 @@
-// The numbers of document 01's refusals. specs/Answers has the same table.
+// Document 01's numbers for legs and refusals. specs/Bytes, File and Answers have the same tables.
 ghost use mathlib.Core.Path.{_≡_};
 ghost use Rattle.model.specs.Answers.{refusalNumber};
+ghost use Rattle.model.specs.Bytes.{legsNumber};
+ghost use Rattle.model.specs.File.{legsOf};
+use crate::Legs;
 use crate::Refusal;
+
+// Four for any number but 3.
+pub fn legs_of(n: u32) -> Legs
+    ensures { λ r. ⌜ r ≡ legsOf n ⌝ }
+{
+    if n == 3 {
+        return Legs::Three;
+    }
+    Legs::Four
+}
+
+pub fn legs_number(l: Legs) -> u64
+    ensures { λ r. ⌜ r ≡ legsNumber l ⌝ }
+{
+    match l {
+        Legs::Three => 3,
+        Legs::Four => 4,
+    }
+}
 
 pub fn refusal_number(e: Refusal) -> u32
     ensures { λ r. ⌜ r ≡ refusalNumber e ⌝ }

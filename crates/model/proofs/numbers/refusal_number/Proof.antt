@@ -1,6 +1,6 @@
 use borrow.Author.Needs.{needs}
-use Rattle.model.proofs.answers.refusal_number.Statement.{statement}
-use Rattle.model.proofs.answers.refusal_number.Tie as tie
+use Rattle.model.proofs.numbers.refusal_number.Statement.{statement}
+use Rattle.model.proofs.numbers.refusal_number.Tie as tie
 
 enum-told : tie.Need-enum-told
 enum-told c = search needs
