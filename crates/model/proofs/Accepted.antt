@@ -14,7 +14,7 @@ use Rattle.model.specs.declared.Item.{Item}
 use Rattle.model.specs.Lists.{allOf, joined}
 use Rattle.model.specs.declared.Range.{Range}
 use Rattle.model.specs.Ranges.{within, legCount, sectionCount, sectionWidth, sectionHeight, groupCount, memberKind, memberSize, memberLength, itemCount, itemWidth, itemLength, coefficients, positionFactor}
-use Rattle.model.specs.Tower.{Tower}
+use Rattle.model.specs.Tower.{Section, Tower}
 use Rattle.model.specs.Areas.{bareSolid}
 use Rattle.model.specs.Reading.{Parsed, got, bytesNumber, field, ranged, many}
 use Rattle.model.specs.File.{memberOf, numbered, legsOf, readGroup, readGroups, readSection, readSections, readItemFields, readItem, readItems, readFile}
@@ -110,9 +110,11 @@ section-read s h =
     then-gives (ranged-read 1 groupCount 6 s₃ (c .bytes)) λ count s₄ d.
     then-gives (groups-read count s₄ (d .bytes)) λ groups s₅ g.
     require-gives (leb (bareSolid groups .0) _) 8 λ bare.
+    let section : Section =
+    record { width = record { 0 = width }; height = record { 0 = height }; allowance = record { 0 = allowance }; groups = groups } in
     let e : ReadFrom (joined groupBytes) (allOf groupFits) s₄ groups s₅ = g .0 in
     let counted : within groupCount (length groups) ≡ true = rw (g .1) (d .fits) in
-    given {s = s₅}
+    given {a = section} {s = s₅}
     (record {
       fits = and-join (a .fits) (and-join (b .fits) (and-join even (and-join (c .fits) (and-join counted (and-join (e .fits) bare)))));
       same = rw (g .1) (simp append-assoc (cc));
@@ -192,7 +194,7 @@ file-read s h =
     then-gives (items-read count held s₄ (d .bytes)) λ items s₅ e.
     require-gives (eqb (length s₅) 0) 13 λ end.
     let f : _ = and-split (allOf (itemFits count) items) (distinct items) (e .0 .fits) in
-    given {s = []} (
+    given {a = record { legs = legsOf legs; sections = sections; items = items }} {s = []} (
       record { count = rw (c .1) (b .fits); sections = c .0 .fits; held = rw (e .1) (d .fits); items = rw (c .1) (f .0); numbers = f .1 },
       rw (legs-number legs (a .fits), c .1, e .1) (cc (append-nil (joined itemBytes items), no-bytes s₅ end, c .0 .same, e .0 .same)),
     )
