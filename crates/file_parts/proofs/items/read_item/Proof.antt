@@ -92,7 +92,7 @@ unfolding readItem
 returns-4 c =
     let m = c .before in
     let e = m .before .before .before .before in
-    record { says = rw (number (e .before .before) .0, fresh e, section m .0, le-ltb _ _ (c .if2 .taken)) refl }
+    record { says = rw (number (e .before .before) .0, fresh e, section m .0, le-ltb (m .before .f2 .given .0 .0) _ (c .if2 .taken)) refl }
 
 sub-read-item-fields : tie.Need-sub-read-item-fields
 sub-read-item-fields c = section (c .before) .1
