@@ -1,6 +1,7 @@
--- What follows from the promises of `section_load` and `item_sum`: the force is in the band, and it is the same for the same legs, section, items
--- in any order and wind. `Loaded` and `Summed` are the functions' own contracts, of the values handed over and handed back.
-use Prim.Native.Nat.{ℕ, _-_, _≤_, _<_}
+-- What follows from the promises of `section_load` and `item_sum`: the force is in the band and at most 2²⁷ newtons, it is the same for the same
+-- legs, section, items in any order and wind, and it is the report's. `Loaded` and `Summed` are the functions' own contracts, of the values handed
+-- over and handed back.
+use Prim.Native.Nat.{ℕ, _-_, _^_, _≤_, _<_}
 use mathlib.Core.Path.{_≡_, refl, ap, sym, subst, _∙_}
 use mathlib.Core.Bool.{true}
 use mathlib.Core.List.{List, List·Permᴰ}
@@ -10,24 +11,26 @@ use lib.ListN.{length, take}
 use Rattle.units.specs.declared.Length.{Length}
 use Rattle.units.specs.declared.Area.{Area}
 use Rattle.exact.specs.Fraction.{whole}
-use Rattle.exact.specs.Number.{AtMost, Within, Least, Sound}
+use Rattle.exact.specs.Number.{AtMost, AtLeast, Within, Least, Sound}
 use Rattle.exact.proofs.Ceiling.{least-unique, ceiling-least, least-within}
 use Rattle.model.specs.declared.Legs.{Legs}
 use Rattle.model.specs.declared.Section as stored
 use Rattle.model.specs.declared.Item.{Item}
 use Rattle.model.specs.declared.Areas.{Areas}
 use Rattle.model.specs.Tower.{Section, Tower, Wind, sectionOf}
-use Rattle.model.specs.Areas.{thickness, areasOf, solid, solidOf, gross}
-use Rattle.model.specs.Force.{itemSum, exact, exactForce}
+use Rattle.model.specs.Areas.{thickness, areasOf, solid, solidOf, gross, largestGross}
+use Rattle.model.specs.Force.{itemSum, largestItems, exact, exactForce}
 use Rattle.model.specs.Report.{sectionAt, pressureAt, areasAt, exactAt, forceAt}
 use Rattle.model.specs.Valid.{sectionFits, ValidWind}
 use Rattle.model.proofs.Lists.{sumBy-perm}
 use Rattle.model.proofs.ExactForce.{exact-sound, exact-nonneg}
 use Rattle.exact.proofs.Bools.{and-join}
-use Rattle.model.proofs.Forces.{opened, fits-at, ice-at, solid-under, sound-at}
+use Rattle.model.proofs.Bounds.{exact-bound}
+use Rattle.model.proofs.Sections.{gross-bound}
+use Rattle.model.proofs.Forces.{opened, fits-at, ice-at, solid-under}
 use Rattle.force.specs.declared.Load.{Load}
 use Rattle.areas.specs.Fits.{fitsUnder}
-use Rattle.force.proofs.Loads.{solid-known}
+use Rattle.force.proofs.Loads.{section-known, solid-known}
 use Rattle.force.proofs.section.section_load.Reads as load-reads
 use Rattle.areas.proofs.items.item_sum.Reads as sum-reads
 
@@ -55,6 +58,19 @@ module _ (l : Legs) (k : ℕ) (t : Length) (factor : ℕ) (s : stored.Section) (
       subst (λ (x : Area). AtMost (whole 0) (exact l k factor q x a items)) (opened a u (solid-in .1))
       (exact-nonneg l k factor q a (u .0 - solid a .0) items (solid-in .0))
 
+  force-reached : factor ≤ 2000 → q ≤ 5000 → items ≤ largestItems → AtLeast (exactForce l k t factor (sectionOf s) q items) (whole (2 ^ 27))
+  unfolding exactForce
+  force-reached hf hq hi =
+      let a : Areas = areasOf t q (sectionOf s .groups) in
+      let u : Area = gross (sectionOf s) in
+      let g : u .0 ≤ largestGross = gross-bound (sectionOf s) (section-known t q s h) in
+      subst (λ (x : Area). AtLeast (exact l k factor q x a items) (whole (2 ^ 27))) (opened a u (solid-in .1))
+      (exact-bound l k factor q a (u .0 - solid a .0) items (solid-in .0) (omega (arith, solid-in .1)) hq hf hi)
+
+  -- the force is at most 2²⁷ newtons
+  pub force-small : factor ≤ 2000 → q ≤ 5000 → items ≤ largestItems → {n : ℕ} → Least (exactForce l k t factor (sectionOf s) q items) n → n ≤ 2 ^ 27
+  force-small hf hq hi g = g .least (2 ^ 27) (force-reached hf hq hi)
+
   pub load-within : {r : Load} → Loaded l k t factor s q items r → (margin : ℕ) → 0 < margin
       → Within margin (exactForce l k t factor (sectionOf s) q items) (r .force .0)
   load-within p margin m = least-within force-sound force-nonneg margin _ m (p .1)
@@ -72,22 +88,23 @@ module _ (l : Legs) (k : ℕ) (t : Length) (factor q i : ℕ) (s s′ : stored.S
       let g : Least (exactForce l k t factor (sectionOf s′) q m) (r .force .0) = rw (← e, ← sum-same a b) (c .1) in
       (c .0 ∙ ap (λ (x : Section). areasOf t q (x .groups)) e ∙ sym (d .0), least-unique g (d .1))
 
--- a section of a valid tower fits under the ice of a wind that the tower takes, and it is the force that the report shows
-module _ (t : Tower) (w : Wind) (v : ValidWind t w) (i : ℕ) (h : i < length (t .sections)) (s : stored.Section) (e : sectionOf s ≡ sectionAt t i) where
-  pub valid-fits : s .count ≤ 8 → fitsUnder (thickness (w .ice)) s ≡ true
+module _ (t : Tower) (w : Wind) (i : ℕ) (s : stored.Section) (e : sectionOf s ≡ sectionAt t i) where
+  -- a section of a valid tower fits under the ice of a wind that the tower takes
+  pub valid-fits : ValidWind t w → i < length (t .sections) → s .count ≤ 8 → fitsUnder (thickness (w .ice)) s ≡ true
   unfolding fitsUnder
-  valid-fits c =
+  valid-fits v h c =
       let f : sectionFits (sectionOf s) ≡ true =
       subst (λ (x : Section). sectionFits x ≡ true) (sym e) (fits-at t w v i h) in
       let g : solidOf (thickness (w .ice)) (sectionOf s .groups) .0 ≤ gross (sectionOf s) .0 =
       subst (λ (x : Section). solidOf (thickness (w .ice)) (x .groups) .0 ≤ gross x .0) (sym e) (solid-under t w v i h) in
       and-join (le-leb _ 50 (ice-at t w v i h)) (and-join (le-leb _ 8 c) (and-join f (le-leb _ _ g)))
 
-  pub load-reported : (xs : List Item) (held : ℕ) {n : ℕ} {r : Load} → take held xs ≡ t .items → Summed (thickness (w .ice)) i xs held n
+  -- of a section that fits, the areas and the force are those that the report shows
+  pub load-reported : fitsUnder (thickness (w .ice)) s ≡ true → {n : ℕ} {r : Load} → n ≡ itemSum (thickness (w .ice)) i (t .items)
       → Loaded (t .legs) (w .direction) (thickness (w .ice)) (w .factor) s (pressureAt w i) n r
       → (r .areas ≡ areasAt t w i) × (r .force ≡ forceAt t w i)
   unfolding areasAt exactAt forceAt
-  load-reported xs held {n} {r} ei q p =
-      let k : n ≡ itemSum (thickness (w .ice)) i (t .items) = q .0 ∙ ap (itemSum (thickness (w .ice)) i) ei in
+  load-reported h {n} {r} k p =
+      let d : Sound (exactAt t w i) = rw (← e, ← k) (force-sound _ _ _ _ s _ n h) in
       let g : Least (exactAt t w i) (r .force .0) = rw (← e, ← k) (p .1) in
-      (rw (← e) (p .0), ap (λ (n : ℕ). record { 0 = n }) (least-unique g (ceiling-least (exactAt t w i) (sound-at t w v i h .rational))))
+      (rw (← e) (p .0), ap (λ (n : ℕ). record { 0 = n }) (least-unique g (ceiling-least (exactAt t w i) (d .rational))))

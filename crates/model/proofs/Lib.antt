@@ -22,3 +22,5 @@ pub mod RoundTrips
 pub mod Says
 pub mod Refused
 pub mod HostCall
+pub mod Reached
+pub mod NewlyErected

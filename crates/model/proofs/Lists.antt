@@ -1,14 +1,14 @@
 -- Sums over lists and over indices; tests over lists; nothing of it depends on the order.
 use Prim.Native.Nat.{ℕ, zero, suc, _+_, _*_, _≤_, _<_}
 use mathlib.Core.Path.{_≡_, refl, ap, sym, _∙_}
-use mathlib.Core.Bool.{Bool, true, false, _&&_, _||_, and-true, and-false, and-assoc, or-true, or-false, or-assoc}
+use mathlib.Core.Bool.{Bool, true, false, cond, _&&_, _||_, and-true, and-false, and-assoc, and-comm, or-true, or-false, or-assoc, or-comm}
 use mathlib.Core.List.{List, [], _∷_, _++_, map, List·Permᴰ, List·Permᴰ·nil, List·Permᴰ·cons, List·Permᴰ·swap, List·Permᴰ·trans, Forall₂, Forall₂·nil, Forall₂·cons}
 use native.Mathlib.Numerals.{add-one}
 use native.Mathlib.Omega.{arith}
 use lib.ListN.{length, getD, set, take, drop, length-append, length-map, take-append-drop}
 use lib.Seq.{take-suc, getD-take, length-take-le}
-use Rattle.model.specs.Lists.{anyOf, allOf, sumBy, sumTo, listTo}
-use Rattle.exact.proofs.Bools.{and-split, and-join, or-split}
+use Rattle.model.specs.Lists.{anyOf, allOf, kept, sumBy, sumTo, listTo}
+use Rattle.exact.proofs.Bools.{and-split, and-join, or-split, or-join}
 
 module _ {A : Type 0} (f : A → ℕ) where
   pub sumBy-none : sumBy f [] ≡ 0
@@ -173,3 +173,57 @@ module _ {A : Type 0} (p : A → Bool) where
   all-fails (x ∷ xs) zero i d h g f = absurd (omega arith)
   all-fails (x ∷ xs) (suc n) zero d h g f = rw f
   all-fails (x ∷ xs) (suc n) (suc i) d h g f = rw (all-fails xs n i d (omega arith) (omega arith) f) (and-false (p x))
+
+-- a test that holds of all, from one that says more; and of all that a function gives
+pub all-weaker : {A : Type 0} (p q : A → Bool) → ((x : A) → p x ≡ true → q x ≡ true) → (l : List A) → allOf p l ≡ true → allOf q l ≡ true
+all-weaker p q h [] t = refl
+all-weaker p q h (x ∷ xs) t =
+    let k : _ = and-split (p x) (allOf p xs) t in
+    and-join (h x (k .0)) (all-weaker p q h xs (k .1))
+
+pub all-map : {A B : Type 0} (f : A → B) (p : B → Bool) (l : List A) → allOf p (map f l) ≡ allOf (λ (x : A). p (f x)) l
+all-map f p [] = refl
+all-map f p (x ∷ xs) = rw (all-map f p xs)
+
+-- tests do not depend on the order
+and-swap : (a b c : Bool) → (a && (b && c)) ≡ (b && (a && c))
+and-swap a b c = rw (← and-assoc a b c, and-comm a b, and-assoc b a c)
+
+or-swap : (a b c : Bool) → (a || (b || c)) ≡ (b || (a || c))
+or-swap a b c = rw (← or-assoc a b c, or-comm a b, or-assoc b a c)
+
+module _ {A : Type 0} (p : A → Bool) where
+  pub all-perm : {xs ys : List A} → List·Permᴰ xs ys → allOf p xs ≡ allOf p ys
+  all-perm List·Permᴰ·nil = refl
+  all-perm (List·Permᴰ·cons e d) = rw (e, all-perm d)
+  all-perm (List·Permᴰ·swap {a = a} {b = b} {l = l} e g) = rw (← e, ← g) (and-swap (p a) (p b) (allOf p l))
+  all-perm (List·Permᴰ·trans c d) = all-perm c ∙ all-perm d
+
+  pub any-perm : {xs ys : List A} → List·Permᴰ xs ys → anyOf p xs ≡ anyOf p ys
+  any-perm List·Permᴰ·nil = refl
+  any-perm (List·Permᴰ·cons e d) = rw (e, any-perm d)
+  any-perm (List·Permᴰ·swap {a = a} {b = b} {l = l} e g) = rw (← e, ← g) (or-swap (p a) (p b) (anyOf p l))
+  any-perm (List·Permᴰ·trans c d) = any-perm c ∙ any-perm d
+
+-- what holds either way
+pub either-way : {A : Type 0} (P : A → Type 0) (b : Bool) {x y : A} → P x → P y → P (cond b x y)
+either-way P true h g = h
+either-way P false h g = g
+
+-- the elements that a test keeps
+module _ {A : Type 0} (p : A → Bool) where
+  pub length-kept : (l : List A) → length (kept p l) ≤ length l
+  length-kept [] = omega arith
+  length-kept (x ∷ xs) = either-way (λ (m : List A). length m ≤ length (x ∷ xs)) (p x) (omega (arith, length-kept xs)) (omega (arith, length-kept xs))
+
+  pub all-kept : (q : A → Bool) (l : List A) → allOf q l ≡ true → allOf q (kept p l) ≡ true
+  all-kept q [] h = refl
+  all-kept q (x ∷ xs) h =
+      let k : _ = and-split (q x) (allOf q xs) h in
+      either-way (λ (m : List A). allOf q m ≡ true) (p x) (and-join (k .0) (all-kept q xs (k .1))) (all-kept q xs (k .1))
+
+  pub any-kept : (q : A → Bool) (l : List A) → anyOf q l ≡ false → anyOf q (kept p l) ≡ false
+  any-kept q [] h = refl
+  any-kept q (x ∷ xs) h =
+      let k : _ = or-split (q x) (anyOf q xs) h in
+      either-way (λ (m : List A). anyOf q m ≡ false) (p x) (or-join (k .0) (any-kept q xs (k .1))) (any-kept q xs (k .1))

@@ -1,6 +1,6 @@
 -- A valid tower's file is read back as that tower, also without its items; and every element of a file is a byte.
 use Prim.Native.Nat.{ℕ, _^_, _≤_, _<_}
-use mathlib.Core.Path.{_≡_, refl, sym, subst, _∙_}
+use mathlib.Core.Path.{_≡_, refl, sym, subst}
 use mathlib.Core.Bool.{true, not}
 use mathlib.Core.List.{List, [], _∷_, _++_, append-assoc, append-nil}
 use native.Mathlib.Omega.{arith}
@@ -27,7 +27,7 @@ use Rattle.exact.proofs.Bools.{and-split}
 use Rattle.model.proofs.Lists.{all-append, all-of-append, all-in}
 use Rattle.model.proofs.Sections.{in-range, within-range, section-facts, item-facts}
 use Rattle.model.proofs.Fields.{all-bytes, field-back, ranged-back}
-use Rattle.model.proofs.Distinct.{distinct-more, distinct-front}
+use Rattle.model.proofs.Distinct.{new-number}
 
 -- a run of parts, each of which is read back behind those before it where the whole list is good
 module _ {A : Type 0} (bytesOf : A → List ℕ) (p : List A → List ℕ → Parsed A) (Good : List A → Type 0) where
@@ -87,11 +87,6 @@ sections-back l s h =
     many-back sectionBytes (λ l. readSection) (λ l. allOf sectionFits l ≡ true) (λ l x m k. section-back x (all-in sectionFits l x m k)) [] l s h
 
 -- items
-new-number : (l : List Item) (it : Item) (m : List Item) → distinct (l ++ (it ∷ m)) ≡ true → not (numbered (it .number) l) ≡ true
-new-number l it m h =
-    let k : distinct ((l ++ (it ∷ [])) ++ m) ≡ true = rw append-assoc h in
-    and-split (distinct l) _ (sym (distinct-more l it) ∙ distinct-front (l ++ (it ∷ [])) m k) .1
-
 module _ (sections : ℕ) (few : sections ≤ 32) where
   item-back : (earlier : List Item) (it : Item) → not (numbered (it .number) earlier) ≡ true → itemFits sections it ≡ true
       → (s : List ℕ) → readItem sections earlier (itemBytes it ++ s) ≡ got it s

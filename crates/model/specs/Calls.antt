@@ -107,6 +107,12 @@ abbrev pub run : State → List Call → State
 run m [] = m
 run m (c ∷ cs) = run (step m c) cs
 
+-- what the slice lent to the last call of a list holds after it; [] for no call
+abbrev pub lentLast : State → List Call → List ℕ
+lentLast m [] = []
+lentLast m (c ∷ []) = lentAfter m c
+lentLast m (c ∷ (d ∷ cs)) = lentLast (step m c) (d ∷ cs)
+
 -- the tower newly erected: from its file with no items, one hang for each item in this order, wind, then a report
 abbrev pub newlyErected : Tower → List Item → Wind → List ℕ → List Call
 newlyErected t items w lent = erect (fileOf (withItems t [])) ∷ (map hang items ++ (wind w ∷ report lent ∷ []))

@@ -3,7 +3,7 @@ use Prim.Native.Nat.{ℕ, _%_, _^_}
 use mathlib.Core.Path.{_≡_}
 use mathlib.Core.Bool.{Bool, true, not, _&&_}
 use mathlib.Core.List.{List, [], _∷_}
-use mathlib.Core.Option.{none}
+use mathlib.Core.Option.{none, some}
 use lib.Dec.{leb, ltb, eqb}
 use lib.ListN.{length}
 use Rattle.model.specs.declared.Group.{Group}
@@ -13,7 +13,7 @@ use Rattle.model.specs.Ranges.{within, sectionCount, sectionWidth, secti
 use Rattle.model.specs.Tower.{Section, Tower, Wind}
 use Rattle.model.specs.Areas.{sizeOf, gross, bareSolid}
 use Rattle.model.specs.File.{numbered, fieldsInRange}
-use Rattle.model.specs.Machine.{standing, windRefusal}
+use Rattle.model.specs.Machine.{State, no-tower, standing, windRefusal}
 
 abbrev pub groupFits : Group → Bool
 groupFits g = within memberSize (sizeOf (g .member) .0) && within memberLength (g .length .0)
@@ -49,3 +49,9 @@ pub record ValidTower (t : Tower) : Type 0 where
 pub record ValidWind (t : Tower) (w : Wind) : Type 0 where
   pub tower : ValidTower t
   pub accepted : windRefusal (standing t none) w ≡ 0
+
+-- a state that a list of calls can come to: no tower; a valid tower under no wind; or one under a wind that it takes
+pub data ValidState : State → Type 0 where
+  none-standing : ValidState no-tower
+  calm : {t : Tower} → ValidTower t → ValidState (standing t none)
+  windy : {t : Tower} {w : Wind} → ValidWind t w → ValidState (standing t (some w))

@@ -1,0 +1,148 @@
+-- The customer's third demand: one theorem about every list of calls.
+use Prim.Native.Nat.{ℕ, _+_, _*_, _≤_, _<_}
+use mathlib.Core.Path.{_≡_, refl, ap, sym, subst, _∙_}
+use mathlib.Core.Bool.{Bool, true}
+use mathlib.Core.List.{List, [], _∷_, _++_, List·Permᴰ}
+use mathlib.Core.Option.{none, some}
+use native.Mathlib.Omega.{arith}
+use lib.Dec.{ltb}
+use lib.ListN.{length, take, drop, getD, List·getD-append}
+use lib.Seq.{take-at}
+use borrow.Author.Tests.{ltb-false}
+use Rattle.exact.specs.Sum.{ExcessBelow}
+use Rattle.exact.proofs.Bools.{and-split}
+use Rattle.model.specs.declared.Item.{Item}
+use Rattle.model.specs.Lists.{allOf}
+use Rattle.model.specs.Tower.{Tower, Wind}
+use Rattle.model.specs.Report.{shearAt, momentAt, rowAt, rowsOf, shearTerms, momentTerms, armsTo}
+use Rattle.model.specs.Machine.{State, no-tower, standing, reportOut, reportRefusal}
+use Rattle.model.specs.Calls.{Call, report, typed, refusalOf, step, lentBefore, lentAfter, run, newlyErected}
+use Rattle.model.specs.Valid.{ValidWind, ValidState, none-standing, windy}
+use Rattle.model.proofs.Forces.{refuse-none}
+use Rattle.model.proofs.Moments.{shear-excess, moment-excess}
+use Rattle.model.proofs.Rows.{columns, length-rows, row-at, report-rows}
+use Rattle.model.proofs.Reached.{step-valid}
+use Rattle.model.proofs.NewlyErected.{newly-accepted, newly-rows}
+use Rattle.model.proofs.Refused.{refused-state, refused-lent}
+use Rattle.service.specs.declared.State as stored
+use Rattle.service.specs.Held.{stateOf}
+use Rattle.service.specs.Outcomes.{replyNumber, Says, Outcome, isAccepted, lastLent}
+use Rattle.service.proofs.Links.{IsFresh, Link, Chain, none, more, link-state, link-lent, link-says, says-number, chain-state, chain-accepted, chain-lent}
+
+-- the excess of every reported shear and moment is never negative, and below so many newtons times the sections down to the foot, or times the sum of the arms
+pub record Excess (newtons : ℕ) (t : Tower) (w : Wind) (rows : List ℕ) : Type 0 where
+  pub shear : (i : ℕ) → i < length (t .sections) → ExcessBelow (shearTerms t w (i + 1)) (getD rows (6 * i + 4) 0) (newtons * (i + 1))
+  pub moment : (i : ℕ) → i < length (t .sections) → ExcessBelow (momentTerms t w (i + 1)) (getD rows (6 * i + 5) 0) (newtons * armsTo t (i + 1) .0)
+
+-- a tower newly erected on another fresh service, with the same items in whatever order, and given the same wind: none of the calls is turned down, and
+-- the report into a slice of the same length has the same numbers
+pub record SameNewly (t : Tower) (w : Wind) (room : ℕ) (rows : List ℕ) : Type 0 where
+  pub each-order : (items : List Item) → List·Permᴰ (t .items) items → (lent : List ℕ) → length lent ≡ room
+      → {f s : stored.State} {os : List Outcome} → IsFresh f → Chain f (newlyErected t items w lent) os s
+      → (allOf isAccepted os ≡ true) × (take (6 * length (t .sections)) (lastLent os) ≡ take (6 * length (t .sections)) rows)
+
+-- an accepted report: it stands for a tower under a wind, its six numbers a section are document 01's, and the rest of the slice stays
+pub record Shown (m : State) (before after : List ℕ) : Type 0 where
+  pub tower : Tower
+  pub wind : Wind
+  pub state : m ≡ standing tower (some wind)
+  pub rows : after ≡ rowsOf tower wind ++ drop (6 * length (tower .sections)) before
+  pub excess : Excess 2 tower wind after
+  pub closer : Excess 1 tower wind after
+  pub newly : SameNewly tower wind (length before) after
+
+-- an entry, beside the machine's state m
+pub record Entry (m : State) (c : Call) (o : Outcome) : Type 0 where
+  pub number : replyNumber (o .reply) ≡ refusalOf m c
+  pub says : Says m c (o .reply)
+  pub lent : o .lent ≡ lentAfter m c
+  pub refused : (refusalOf m c ≡ 0 → ⊥) → (step m c ≡ m) × (o .lent ≡ lentBefore c)
+  pub shown : (before : List ℕ) → c ≡ report before → replyNumber (o .reply) ≡ 0 → Shown m before (o .lent)
+
+-- every entry of a list, the machine being given the same list
+pub data Each : State → List Call → List Outcome → Type 0 where
+  none-left : {m : State} → Each m [] []
+  entry-then : {m : State} {c : Call} {o : Outcome} {cs : List Call} {os : List Outcome} → Entry m c o → Each (step m c) cs os → Each m (c ∷ cs) (o ∷ os)
+
+-- the numbers of a row in the lent slice
+module _ (t : Tower) (w : Wind) (before after : List ℕ) (e : after ≡ rowsOf t w ++ drop (6 * length (t .sections)) before) where
+  number-at : (i k : ℕ) → i < length (t .sections) → k < 6 → getD after (6 * i + k) 0 ≡ getD (rowAt t w i) k 0
+  number-at i k h g =
+      ap (λ (l : List ℕ). getD l (6 * i + k) 0) e
+      ∙ List·getD-append (rowsOf t w) (drop (6 * length (t .sections)) before) 0 (6 * i + k) (omega (arith, length-rows t w (length (t .sections))))
+      ∙ row-at t w (length (t .sections)) i k h g
+
+  pub rows-in : take (6 * length (t .sections)) after ≡ rowsOf t w
+  rows-in =
+      ap (take (6 * length (t .sections))) e
+      ∙ take-at (rowsOf t w) (drop (6 * length (t .sections)) before) (6 * length (t .sections)) (length-rows t w (length (t .sections)))
+
+  excess-of : (newtons : ℕ) → 0 < newtons → ValidWind t w → Excess newtons t w after
+  excess-of newtons p v =
+      record {
+        shear = λ i h.
+            subst (λ (n : ℕ). ExcessBelow (shearTerms t w (i + 1)) n (newtons * (i + 1))) (sym (number-at i 4 h (omega arith) ∙ columns t w i .shear-at-foot))
+            (shear-excess t w v (i + 1) (omega arith) newtons p (omega arith));
+        moment = λ i h.
+            subst (λ (n : ℕ). ExcessBelow (momentTerms t w (i + 1)) n (newtons * armsTo t (i + 1) .0))
+            (sym (number-at i 5 h (omega arith) ∙ columns t w i .moment-at-foot))
+            (moment-excess t w v (i + 1) (omega arith) newtons p (omega arith));
+      }
+
+  same-newly : ValidWind t w → 6 * length (t .sections) ≤ length before → SameNewly t w (length before) after
+  same-newly v room =
+      record {
+        each-order = λ items p lent long {f} {s} {os} fresh ch.
+            let r : 6 * length (t .sections) ≤ length lent = omega arith in (
+              chain-accepted no-tower fresh ch (newly-accepted t w v items p lent r),
+              ap (take (6 * length (t .sections)))
+                  (chain-lent no-tower fresh ch ∙ newly-rows t w v items p lent r)
+                  ∙ take-at (rowsOf t w) (drop (6 * length (t .sections)) lent) (6 * length (t .sections)) (length-rows t w (length (t .sections)))
+                  ∙ sym rows-in,
+            );
+      }
+
+shown-in : (m : State) (before after : List ℕ) → ValidState m → reportRefusal m (length before) ≡ 0 → after ≡ reportOut m before → Shown m before after
+shown-in no-tower before after v h e = absurd (omega arith)
+shown-in (standing t none) before after v h e = absurd (omega arith)
+shown-in (standing t (some w)) before after (windy v) h e =
+    let short : _ = refuse-none (ltb (length before) (6 * length (t .sections))) 22 0 (omega arith) h in
+    let room : 6 * length (t .sections) ≤ length before = ltb-false _ _ (short .0) in
+    let r : after ≡ rowsOf t w ++ drop (6 * length (t .sections)) before = e ∙ report-rows t w before room in
+    record {
+      tower = t;
+      wind = w;
+      state = refl;
+      rows = r;
+      excess = excess-of t w before after r 2 (omega arith) v;
+      closer = excess-of t w before after r 1 (omega arith) v;
+      newly = same-newly t w before after r v room;
+    }
+
+entry : {s s′ : stored.State} {c : Call} {o : Outcome} (m : State) → stateOf s ≡ m → ValidState m → Link s c o s′ → Entry m c o
+entry {c = c} {o = o} m e v l =
+    let says : Says m c (o .reply) = subst (λ (x : State). Says x c (o .reply)) e (link-says l) in
+    let lent : o .lent ≡ lentAfter m c = link-lent l ∙ ap (λ (x : State). lentAfter x c) e in
+    record {
+      number = says-number says;
+      says = says;
+      lent = lent;
+      refused = λ h. (refused-state m c h, lent ∙ refused-lent m c h);
+      shown = λ before q a.
+          shown-in m before (o .lent) v
+          (subst (λ (x : Call). refusalOf m x ≡ 0) q (sym (says-number says) ∙ a))
+          (lent ∙ ap (lentAfter m) q);
+    }
+
+each : {s s′ : stored.State} {cs : List Call} {os : List Outcome} (m : State) → stateOf s ≡ m → ValidState m → allOf typed cs ≡ true
+    → Chain s cs os s′ → Each m cs os
+each m e v h none = none-left
+each m e v h (more {c = c} {cs = cs} l ch) =
+    let k : _ = and-split (typed c) (allOf typed cs) h in
+    entry-then (entry m e v l) (each (step m c) (link-state l ∙ ap (λ (x : State). step x c) e) (step-valid m c (k .0) v) (k .1) ch)
+
+-- For every list of erect, hang, take-down, wind, report, check and write calls, with any arguments of their types, refused ones included: the list starts from
+-- a fresh service, each call gets the state that the last one left, and document 01's machine is given the same list.
+pub demand-3 : {f s : stored.State} {cs : List Call} {os : List Outcome} → IsFresh f → allOf typed cs ≡ true → Chain f cs os s
+    → Each no-tower cs os × (stateOf s ≡ run no-tower cs)
+demand-3 fresh h ch = (each no-tower fresh none-standing h ch, chain-state no-tower fresh ch)

@@ -1,0 +1,50 @@
+-- What a caller has after a call of a list.
+use Prim.Native.Nat.{ℕ}
+use mathlib.Core.Path.{_≡_}
+use mathlib.Core.Bool.{Bool}
+use mathlib.Core.List.{List, [], _∷_}
+use lib.Dec.{eqb}
+use lib.ListN.{length}
+use Rattle.model.specs.declared.Answer.{Answer}
+use Rattle.model.specs.declared.CheckAnswer.{CheckAnswer}
+use Rattle.model.specs.declared.CheckAnswer.the-variants as check-answer
+use Rattle.model.specs.declared.WriteAnswer.{WriteAnswer}
+use Rattle.model.specs.declared.WriteAnswer.the-variants as write-answer
+use Rattle.model.specs.Answers.{refusalNumber, answerNumber}
+use Rattle.model.specs.Machine.{State, CheckSays, WriteSays}
+use Rattle.model.specs.Calls.{Call, check, write, refusalOf}
+
+-- the answer of erect, hang, take down, wind or report; of check; of write
+pub data Reply : Type 0 where
+  answered : Answer → Reply
+  checked : CheckAnswer → Reply
+  written : WriteAnswer → Reply
+
+-- its number: 0 where the call is accepted, and else the refusal's
+abbrev pub replyNumber : Reply → ℕ
+replyNumber (answered a) = answerNumber a
+replyNumber (checked (check-answer.Over i)) = 0
+replyNumber (checked check-answer.NoneOver) = 0
+replyNumber (checked (check-answer.Refused r)) = refusalNumber r
+replyNumber (written (write-answer.Written n)) = 0
+replyNumber (written (write-answer.Refused r)) = refusalNumber r
+
+-- the answer is one that document 01 has for the call in the machine's state
+pub data Says : State → Call → Reply → Type 0 where
+  by-number : {m : State} {c : Call} {a : Answer} → answerNumber a ≡ refusalOf m c → Says m c (answered a)
+  by-check : {m : State} {a : CheckAnswer} → CheckSays m a → Says m check (checked a)
+  by-write : {m : State} {lent : List ℕ} {a : WriteAnswer} → WriteSays m (length lent) a → Says m (write lent) (written a)
+
+-- the answer, and what the slice that was lent to the call then holds; [] where none is lent
+pub record Outcome : Type 0 where
+  pub reply : Reply
+  pub lent : List ℕ
+
+abbrev pub isAccepted : Outcome → Bool
+isAccepted o = eqb (replyNumber (o .reply)) 0
+
+-- what the slice lent to the last call holds
+abbrev pub lastLent : List Outcome → List ℕ
+lastLent [] = []
+lastLent (o ∷ []) = o .lent
+lastLent (o ∷ (p ∷ os)) = lastLent (p ∷ os)
