@@ -2,12 +2,14 @@
 use Prim.Native.Nat.{_+_, _*_, _≤_}
 use mathlib.Core.Path.{_≡_}
 use mathlib.Core.Bool.{true}
+use mathlib.Core.List.{[]}
 use native.Mathlib.Nat.{mul-le-mul}
 use native.Mathlib.Omega.{arith}
 use Rattle.units.specs.declared.Length.{Length}
 use Rattle.model.specs.declared.Member.the-variants.{Flat}
 use Rattle.model.specs.declared.Group.{Group}
 use Rattle.model.specs.declared.Item.{Item}
+use Rattle.model.specs.declared.Section.{Section}
 use Rattle.model.specs.Ranges.{within, memberSize, memberLength}
 use Rattle.model.specs.Areas.{sizeOf, groupArea}
 use Rattle.model.specs.Valid.{groupFits}
@@ -29,6 +31,9 @@ noItem =
       iced = 0;
       position = 0;
     }
+
+abbrev pub noStored : Section
+noStored = record { width = record { 0 = 0 }; height = record { 0 = 0 }; allowance = record { 0 = 0 }; count = 0; groups = [] }
 
 pub record GroupFacts (g : Group) : Type 0 where
   pub size : InRange memberSize (sizeOf (g .member) .0)

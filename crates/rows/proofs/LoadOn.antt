@@ -18,10 +18,11 @@ use Rattle.model.specs.Force.{itemSum, largestItems}
 use Rattle.model.specs.File.{fieldsInRange}
 use Rattle.model.specs.Report.{areasAt, forceAt}
 use Rattle.areas.specs.Fits.{fitsUnder}
+use Rattle.areas.proofs.Facts.{noStored}
 use Rattle.force.specs.declared.Load.{Load}
 use Rattle.force.proofs.Reported.{Loaded, force-small, load-reported}
 use Rattle.rows.specs.Loaded.{LoadOn}
-use Rattle.rows.proofs.Stored.{noStored, Fitting, section-is, pressure-is, fits-at, pressure-at}
+use Rattle.rows.proofs.Stored.{Fitting, section-is, pressure-is, fits-at, pressure-at}
 
 -- what `thickness`, `item_sum` and `section_load` answer, put together
 pub load-on : (l : Legs) (w : Wind) (s : Section) (i : ℕ) (items : List Item) {t : Length} {n : ℕ} {r : Load}

@@ -2,7 +2,7 @@
 use Prim.Native.Nat.{ℕ, _≤_, _<_}
 use mathlib.Core.Path.{_≡_, ap, sym, _∙_}
 use mathlib.Core.Bool.{true, _&&_}
-use mathlib.Core.List.{List, []}
+use mathlib.Core.List.{List}
 use native.Mathlib.Omega.{arith}
 use lib.Dec.{leb}
 use lib.ListN.{length, take, getD, length-map, List·getD-map}
@@ -23,12 +23,9 @@ use Rattle.model.proofs.Lists.{taken-at}
 use Rattle.model.proofs.Sections.{in-range}
 use Rattle.exact.proofs.Bools.{and-split}
 use Rattle.areas.specs.Fits.{fitsUnder}
+use Rattle.areas.proofs.Facts.{noStored}
 use Rattle.force.proofs.Loads.{section-known}
 use Rattle.rows.specs.Fits.{towerFits, windFits}
-
--- what stands past the end of an array of sections
-abbrev pub noStored : Section
-noStored = record { width = record { 0 = 0 }; height = record { 0 = 0 }; allowance = record { 0 = 0 }; count = 0; groups = [] }
 
 -- the sections and pressures below the count are the report's
 pub section-is : (t : Tower) (i : ℕ) → i < t .count → sectionOf (getD (t .sections) i noStored) ≡ sectionAt (towerOf t) i

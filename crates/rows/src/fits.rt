@@ -45,11 +45,10 @@ pub fn tower_fits(t: Length, x: Tower) -> bool
     items_fit(items, x.held)
 }
 
-fn pressures_fit(pressures: [u16; 32], n: usize) -> bool
-    requires { ⌜ n ≤ 32 ⌝ }
-    ensures { λ r. ⌜ r ≡ allOf (ranges.within ranges.pressures) (take n pressures) ⌝ }
+pub fn pressures_fit(pressures: &[u16]) -> bool
+    ensures { λ r. ⌜ r ≡ allOf (ranges.within ranges.pressures) (now (pressures .entry)) ⌝ }
 {
-    for i in 0usize..n {
+    for i in 0usize..pressures.len() {
         if !within(PRESSURES, pressures[i] as u32) {
             return false;
         }
@@ -69,5 +68,5 @@ pub fn wind_fits(n: usize, w: Wind) -> bool
         return false;
     }
     let pressures = w.pressures;
-    pressures_fit(pressures, n)
+    pressures_fit(&pressures[..n])
 }

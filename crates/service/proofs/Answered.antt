@@ -5,7 +5,6 @@ use mathlib.Core.Bool.{Bool, true, false}
 use mathlib.Core.List.{List, _++_}
 use mathlib.Core.Option.{Option, none, some}
 use native.Mathlib.Omega.{arith}
-use lib.Dec.{ltb}
 use lib.ListN.{length, drop}
 use borrow.Author.Tests.{lt-ltb, le-ltb}
 use Rattle.model.specs.declared.Answer.the-variants as answer
@@ -17,8 +16,8 @@ use Rattle.model.specs.Answers.{refusalNumber}
 use Rattle.model.specs.Tower.{Tower, Wind, windOf}
 use Rattle.model.specs.Areas.{thickness}
 use Rattle.model.specs.Report.{rowsOf}
-use Rattle.model.specs.Machine.{State, standing, reportRefusal, reportOut, checkRefusal, CheckSays, writeOut, WriteSays, written, turned-down}
-use Rattle.model.specs.Calls.{report, write, refusalOf, lentAfter}
+use Rattle.model.specs.Machine.{State, standing, reportOut, checkRefusal, CheckSays, writeOut, WriteSays, written, turned-down}
+use Rattle.model.specs.Calls.{report, write, refusalOf}
 use Rattle.model.proofs.Says.{refusal-positive}
 use Rattle.model.proofs.Refused.{refused-lent}
 use Rattle.model.proofs.Rows.{report-rows}

@@ -1,7 +1,7 @@
 -- The customer's third demand: one theorem about every list of calls.
 use Prim.Native.Nat.{ℕ, _+_, _*_, _≤_, _<_}
 use mathlib.Core.Path.{_≡_, refl, ap, sym, subst, _∙_}
-use mathlib.Core.Bool.{Bool, true}
+use mathlib.Core.Bool.{true}
 use mathlib.Core.List.{List, [], _∷_, _++_, List·Permᴰ}
 use mathlib.Core.Option.{none, some}
 use native.Mathlib.Omega.{arith}
@@ -14,7 +14,7 @@ use Rattle.exact.proofs.Bools.{and-split}
 use Rattle.model.specs.declared.Item.{Item}
 use Rattle.model.specs.Lists.{allOf}
 use Rattle.model.specs.Tower.{Tower, Wind}
-use Rattle.model.specs.Report.{shearAt, momentAt, rowAt, rowsOf, shearTerms, momentTerms, armsTo}
+use Rattle.model.specs.Report.{rowAt, rowsOf, shearTerms, momentTerms, armsTo}
 use Rattle.model.specs.Machine.{State, no-tower, standing, reportOut, reportRefusal}
 use Rattle.model.specs.Calls.{Call, report, typed, refusalOf, step, lentBefore, lentAfter, run, newlyErected}
 use Rattle.model.specs.Valid.{ValidWind, ValidState, none-standing, windy}
@@ -66,7 +66,7 @@ pub data Each : State → List Call → List Outcome → Type 0 where
 
 -- the numbers of a row in the lent slice
 module _ (t : Tower) (w : Wind) (before after : List ℕ) (e : after ≡ rowsOf t w ++ drop (6 * length (t .sections)) before) where
-  number-at : (i k : ℕ) → i < length (t .sections) → k < 6 → getD after (6 * i + k) 0 ≡ getD (rowAt t w i) k 0
+  pub number-at : (i k : ℕ) → i < length (t .sections) → k < 6 → getD after (6 * i + k) 0 ≡ getD (rowAt t w i) k 0
   number-at i k h g =
       ap (λ (l : List ℕ). getD l (6 * i + k) 0) e
       ∙ List·getD-append (rowsOf t w) (drop (6 * length (t .sections)) before) 0 (6 * i + k) (omega (arith, length-rows t w (length (t .sections))))

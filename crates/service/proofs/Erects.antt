@@ -1,15 +1,13 @@
 -- The ways out of erect, over plain values.
 use Prim.Native.Nat.{ℕ, suc, _^_, _<_}
 use mathlib.Core.Path.{_≡_, refl, ap, sym, subst, _∙_}
-use mathlib.Core.Bool.{Bool, true, false, _&&_}
+use mathlib.Core.Bool.{true, false}
 use mathlib.Core.List.{List, [], _∷_, map}
-use mathlib.Core.Option.{none}
-use lib.Dec.{leb, ltb}
+use lib.Dec.{leb}
 use lib.ListN.{length, take, getD}
 use borrow.Author.Tests.{leb-true, le-leb, lt-ltb}
 use Rattle.model.specs.declared.Answer.{Answer}
 use Rattle.model.specs.declared.Answer.the-variants as answer
-use Rattle.model.specs.declared.Item.{Item}
 use Rattle.model.specs.declared.Refusal.{Refusal}
 use Rattle.model.specs.declared.Section as stored-section
 use Rattle.model.specs.declared.Tower as stored-tower
@@ -23,7 +21,7 @@ use Rattle.model.specs.Reading.{got, refused}
 use Rattle.model.specs.Machine.{standing, fileRefusal, erected, erectRefusal, erectStep}
 use Rattle.model.specs.Calls.{bits, erect, refusalOf}
 use Rattle.model.specs.Valid.{sectionFits, itemFits, ValidTower}
-use Rattle.model.proofs.Lists.{all-map, all-weaker}
+use Rattle.model.proofs.Lists.{all-weaker}
 use Rattle.model.proofs.Accepted.{accepted-valid}
 use Rattle.model.proofs.Reached.{fit-parts}
 use Rattle.model.proofs.Sections.{section-facts}

@@ -2,8 +2,8 @@
 use Prim.Native.Nat.{ℕ, _≤_}
 use mathlib.Core.Path.{_≡_, refl, ap, _∙_}
 use mathlib.Core.Bool.{Bool, true, false}
-use mathlib.Core.List.{List, map}
-use mathlib.Core.Option.{Option, none, some}
+use mathlib.Core.List.{List}
+use mathlib.Core.Option.{Option}
 use native.Mathlib.Omega.{arith}
 use lib.ListN.{length, take, length-map}
 use lib.Seq.{length-take-le}
@@ -15,11 +15,10 @@ use Rattle.model.specs.declared.Wind as stored-wind
 use Rattle.model.specs.Lists.{allOf}
 use Rattle.model.specs.Ranges.{within, iceClasses, structureFactor, pressures}
 use Rattle.model.specs.Tower as machine-tower
-use Rattle.model.specs.Tower.{Wind, towerOf, windOf}
+use Rattle.model.specs.Tower.{Wind, towerOf}
 use Rattle.model.specs.Areas.{thickness}
 use Rattle.model.specs.File.{fieldsInRange}
 use Rattle.model.specs.Machine.{State, no-tower, standing, withItems}
-use Rattle.areas.specs.Fits.{fitsUnder}
 use Rattle.rows.specs.Fits.{towerFits, windFits}
 use Rattle.rows.proofs.Stored.{TowerFacts, tower-facts}
 use Rattle.exact.proofs.Bools.{and-split, and-join}

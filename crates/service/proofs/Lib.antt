@@ -6,3 +6,7 @@ pub mod Answered
 pub mod Links
 pub mod Demand3
 pub mod Filled
+pub mod Demand1
+pub mod Demand2
+pub mod Represented
+pub mod Exists

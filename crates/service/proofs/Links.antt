@@ -1,24 +1,20 @@
 -- Chains of calls on the service. A link is the called function's own contract: `Post` of the module `Reads` that the check makes of it, of the values
 -- passed, the result, and the values at exit.
 use Prim.Native.Nat.{ℕ}
-use mathlib.Core.Path.{_≡_, refl, ap, sym, subst, _∙_}
+use mathlib.Core.Path.{_≡_, refl, ap, sym, _∙_}
 use mathlib.Core.Bool.{Bool, true, false}
 use mathlib.Core.List.{List, [], _∷_}
 use lib.Dec.{eqb}
-use lib.ListN.{length}
 use borrow.Author.Tests.{eqb-true, eqb-false, eq-eqb}
 use contract.Lifetimes.{Lfts}
 use denote.Ref.{RefT, now}
 use Rattle.model.specs.declared.Answer.{Answer}
 use Rattle.model.specs.declared.CheckAnswer.{CheckAnswer}
-use Rattle.model.specs.declared.CheckAnswer.the-variants as check-answer
 use Rattle.model.specs.declared.WriteAnswer.{WriteAnswer}
-use Rattle.model.specs.declared.WriteAnswer.the-variants as write-answer
 use Rattle.model.specs.declared.Item.{Item}
 use Rattle.model.specs.Lists.{allOf}
 use Rattle.model.specs.Machine as machine
 use Rattle.model.specs.Calls.{Call, erect, hang, takeDown, wind, report, check, write, refusalOf, step, lentAfter, run, firstRefusal, lentLast}
-use Rattle.model.proofs.Says.{write-length}
 use Rattle.exact.proofs.Bools.{and-join}
 use Rattle.service.specs.declared.State.{State}
 use Rattle.service.specs.declared.Turn.{Turn}
@@ -81,11 +77,11 @@ link-lent (checked-for p) = refl
 link-lent (written-out κ out after p) = p .bytes
 
 pub link-says : {s s′ : State} {c : Call} {o : Outcome} → Link s c o s′ → Says (stateOf s) c (o .reply)
-link-says (erected κ file p) = by-number (p .answer)
-link-says (hung p) = by-number (p .answer)
-link-says (taken-down p) = by-number (p .answer)
-link-says (wind-set κ ps p) = by-number (p .answer)
-link-says (reported κ out after p) = by-number (p .answer)
+link-says (erected κ file p) = by-number refl (p .answer)
+link-says (hung p) = by-number refl (p .answer)
+link-says (taken-down p) = by-number refl (p .answer)
+link-says (wind-set κ ps p) = by-number refl (p .answer)
+link-says (reported κ out after p) = by-number refl (p .answer)
 link-says (checked-for p) = by-check p
 link-says (written-out κ out after p) = by-write (p .answer)
 
@@ -100,7 +96,7 @@ write-number (machine.written h e) = sym h
 write-number (machine.turned-down h) = h
 
 pub says-number : {m : machine.State} {c : Call} {r : _} → Says m c r → replyNumber r ≡ refusalOf m c
-says-number (by-number h) = h
+says-number (by-number k h) = h
 says-number (by-check h) = check-number h
 says-number (by-write h) = write-number h
 

@@ -1,21 +1,20 @@
 -- The ways out of erect, hang, take down and wind, over plain values.
 use Prim.Native.Nat.{ℕ, _+_, _≤_, _<_}
-use mathlib.Core.Path.{_≡_, refl, ap, sym, subst, _∙_}
+use mathlib.Core.Path.{_≡_, refl, ap, sym, _∙_}
 use mathlib.Core.Bool.{Bool, true, false, not}
-use mathlib.Core.List.{List, [], _∷_, _++_, map}
-use mathlib.Core.Option.{Option, none, some}
+use mathlib.Core.List.{List, [], _∷_, _++_}
 use native.Mathlib.Omega.{arith}
-use lib.Dec.{leb, ltb, eqb}
-use lib.ListN.{length, take, set, length-set}
-use borrow.Author.Tests.{le-leb, lt-leb, eq-eqb, ne-eqb}
+use lib.Dec.{leb}
+use lib.ListN.{length, take, set}
+use borrow.Author.Tests.{le-leb, lt-leb}
 use Rattle.model.specs.declared.Answer.the-variants as answer
 use Rattle.model.specs.declared.Refusal.{Refusal}
 use Rattle.model.specs.declared.Item.{Item}
 use Rattle.model.specs.Answers.{refusalNumber, answerNumber}
 use Rattle.model.specs.Lists.{allOf}
 use Rattle.model.specs.File.{numbered, fieldsInRange}
-use Rattle.model.specs.Machine.{State, no-tower, standing, refuseIf, without, hangRefusal, takeDownRefusal}
-use Rattle.model.specs.Calls.{Call, erect, hang, takeDown, wind, refusalOf, step}
+use Rattle.model.specs.Machine.{State, standing, refuseIf, without, hangRefusal, takeDownRefusal}
+use Rattle.model.specs.Calls.{Call, hang, takeDown, refusalOf, step}
 use Rattle.model.proofs.Says.{refusal-positive}
 use Rattle.model.proofs.Refused.{refused-state}
 use Rattle.model.proofs.Lists.{all-grow, all-kept}
@@ -24,7 +23,7 @@ use Rattle.service.specs.declared.State as stored
 use Rattle.service.specs.declared.Turn.{Turn}
 use Rattle.service.specs.Held.{whole, stateOf}
 use Rattle.service.specs.Promises.{Turned}
-use Rattle.service.proofs.Facts.{not-held, is-held, held-facts, machineTower, machineWind, withHeld, state-items, section-count, item-count}
+use Rattle.service.proofs.Facts.{is-held, held-facts, machineTower, machineWind, withHeld, state-items, section-count, item-count}
 
 -- a call that is turned down
 pub turned-down : (c : Call) (s : stored.State) (e : Refusal) {r : Turn} → (r .state ≡ s) × (r .answer ≡ answer.Refused e)

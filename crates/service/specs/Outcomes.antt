@@ -1,7 +1,7 @@
 -- What a caller has after a call of a list.
 use Prim.Native.Nat.{ℕ}
 use mathlib.Core.Path.{_≡_}
-use mathlib.Core.Bool.{Bool}
+use mathlib.Core.Bool.{Bool, true, false}
 use mathlib.Core.List.{List, [], _∷_}
 use lib.Dec.{eqb}
 use lib.ListN.{length}
@@ -12,7 +12,7 @@ use Rattle.model.specs.declared.WriteAnswer.{WriteAnswer}
 use Rattle.model.specs.declared.WriteAnswer.the-variants as write-answer
 use Rattle.model.specs.Answers.{refusalNumber, answerNumber}
 use Rattle.model.specs.Machine.{State, CheckSays, WriteSays}
-use Rattle.model.specs.Calls.{Call, check, write, refusalOf}
+use Rattle.model.specs.Calls.{Call, erect, hang, takeDown, wind, report, check, write, refusalOf}
 
 -- the answer of erect, hang, take down, wind or report; of check; of write
 pub data Reply : Type 0 where
@@ -29,9 +29,19 @@ replyNumber (checked (check-answer.Refused r)) = refusalNumber r
 replyNumber (written (write-answer.Written n)) = 0
 replyNumber (written (write-answer.Refused r)) = refusalNumber r
 
+-- the answer of these calls is a number alone
+abbrev pub numberAlone : Call → Bool
+numberAlone (erect file) = true
+numberAlone (hang it) = true
+numberAlone (takeDown n) = true
+numberAlone (wind w) = true
+numberAlone (report lent) = true
+numberAlone check = false
+numberAlone (write lent) = false
+
 -- the answer is one that document 01 has for the call in the machine's state
 pub data Says : State → Call → Reply → Type 0 where
-  by-number : {m : State} {c : Call} {a : Answer} → answerNumber a ≡ refusalOf m c → Says m c (answered a)
+  by-number : {m : State} {c : Call} {a : Answer} → numberAlone c ≡ true → answerNumber a ≡ refusalOf m c → Says m c (answered a)
   by-check : {m : State} {a : CheckAnswer} → CheckSays m a → Says m check (checked a)
   by-write : {m : State} {lent : List ℕ} {a : WriteAnswer} → WriteSays m (length lent) a → Says m (write lent) (written a)
 

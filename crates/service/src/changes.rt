@@ -2,8 +2,6 @@
 ghost use mathlib.Core.Path.{_≡_};
 ghost use Prim.Native.Nat.{_≤_};
 ghost use lib.ListN.{length, take};
-ghost use Rattle.model.specs.Lists.{allOf};
-ghost use Rattle.model.specs.Ranges as ranges;
 ghost use Rattle.model.specs.Machine as machine;
 ghost use Rattle.model.specs.Calls as call;
 ghost use Rattle.service.specs.Promises.{Turned, windAsked};
@@ -23,9 +21,9 @@ use model::Refusal;
 use model::Wind;
 use model::ranges::DIRECTIONS;
 use model::ranges::ICE_CLASSES;
-use model::ranges::PRESSURES;
 use model::ranges::STRUCTURE_FACTOR;
 use model::ranges::within;
+use rows::fits::pressures_fit;
 use rows::fits::sections_fit;
 
 // The tower of the file in place of everything, and no wind.
@@ -131,17 +129,6 @@ fn direction_fits(legs: Legs, k: u32) -> bool
         Legs::Three => within(DIRECTIONS, k) && k % 2 == 0,
         Legs::Four => within(DIRECTIONS, k),
     }
-}
-
-fn pressures_fit(pressures: &[u16]) -> bool
-    ensures { λ r. ⌜ r ≡ allOf (ranges.within ranges.pressures) (now (pressures .entry)) ⌝ }
-{
-    for i in 0usize..pressures.len() {
-        if !within(PRESSURES, pressures[i] as u32) {
-            return false;
-        }
-    }
-    true
 }
 
 fn stored(pressures: &[u16]) -> [u16; 32]

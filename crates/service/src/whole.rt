@@ -6,15 +6,12 @@ ghost use Rattle.service.specs.Held.{whole, stateOf};
 use crate::State;
 use crate::Turn;
 use areas::section::thickness;
-use file_parts::items::NO_ITEM;
-use file_parts::sections::NO_SECTION;
 use model::Answer;
-use model::Legs;
 use model::Refusal;
-use model::Tower;
 use model::Wind;
 use rows::fits::tower_fits;
 use rows::fits::wind_fits;
+use tower_file::file::NO_TOWER;
 use units::Length;
 
 pub const NO_WIND: Wind = Wind {
@@ -22,14 +19,6 @@ pub const NO_WIND: Wind = Wind {
     ice: 0,
     factor: 0,
     pressures: [0; 32],
-};
-
-const NO_TOWER: Tower = Tower {
-    legs: Legs::Three,
-    count: 0,
-    sections: [NO_SECTION; 32],
-    held: 0,
-    items: [NO_ITEM; 64],
 };
 
 // A service without a tower.

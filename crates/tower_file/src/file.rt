@@ -33,7 +33,7 @@ use model::numbers::legs_of;
 use model::ranges::LEG_COUNT;
 use model::ranges::SECTION_COUNT;
 
-const NO_TOWER: Tower = Tower {
+pub const NO_TOWER: Tower = Tower {
     legs: Legs::Three,
     count: 0,
     sections: [NO_SECTION; 32],

@@ -6,8 +6,9 @@ use Rattle.model.specs.Lists.{joined}
 use Rattle.model.specs.Tower.{sectionOf}
 use Rattle.model.proofs.Lists.{length-mapped}
 use Rattle.model.proofs.FileLength.{length-section}
+use Rattle.areas.proofs.Facts.{noStored}
 use Rattle.file_fields.proofs.Writing.{joined-none, length-next}
-use Rattle.file_parts.proofs.StoredSections.{storedBytes, noStored, stored-joined}
+use Rattle.file_parts.proofs.StoredSections.{storedBytes, stored-joined}
 use borrow.Author.Needs.{needs}
 use Rattle.file_parts.proofs.sections.sections_length.Statement.{statement}
 use Rattle.file_parts.proofs.sections.sections_length.Tie as tie

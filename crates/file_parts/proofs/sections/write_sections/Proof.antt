@@ -4,9 +4,10 @@ use native.Mathlib.Omega.{arith}
 use lib.ListN.{length, take, getD}
 use Rattle.model.specs.Lists.{joined}
 use Rattle.model.proofs.Lists.{length-mapped}
+use Rattle.areas.proofs.Facts.{noStored}
 use Rattle.file_fields.specs.Written.{Puts}
 use Rattle.file_fields.proofs.Writing.{Room, puts-none, puts-next, puts-room, puts-as, puts-long}
-use Rattle.file_parts.proofs.StoredSections.{storedBytes, noStored, stored-joined}
+use Rattle.file_parts.proofs.StoredSections.{storedBytes, stored-joined}
 use borrow.Author.Needs.{needs}
 use Rattle.file_parts.proofs.sections.write_sections.Statement.{statement}
 use Rattle.file_parts.proofs.sections.write_sections.Tie as tie

@@ -1,21 +1,22 @@
-use Prim.Native.Nat.{_-_, _≤_, _<_}
+use Prim.Native.Nat.{_-_, _≤_}
 use mathlib.Core.Path.{_≡_, refl, _∙_, sym}
 use mathlib.Core.Bool.{true}
 use native.Mathlib.Omega.{arith}
 use lib.ListN.{length, take}
+use lib.Seq.{take-all}
 use Rattle.exact.proofs.Bools.{and-join, passed, failed}
 use Rattle.model.specs.Lists.{allOf}
 use Rattle.model.specs.Ranges.{within, pressures}
-use Rattle.model.proofs.Lists.{length-mapped, all-more, all-fails}
+use Rattle.model.proofs.Lists.{all-more, all-fails}
 use borrow.Author.Needs.{needs}
 use Rattle.rows.proofs.fits.pressures_fit.Statement.{statement}
 use Rattle.rows.proofs.fits.pressures_fit.Tie as tie
 
 abbrev Inv-loop : tie.InvT-loop
-Inv-loop n l i₀ i = (i ≤ n) × (allOf (within pressures) (take i l) ≡ true)
+Inv-loop l i₀ i-end i = (i ≤ i-end) × (allOf (within pressures) (take i l) ≡ true)
 
 abbrev μ-loop : tie.MeasureT-loop
-μ-loop n l i₀ i = n - i
+μ-loop l i₀ i-end i = i-end - i
 
 loop-holds : tie.Need-loop-holds Inv-loop μ-loop
 loop-holds c = (omega arith, refl)
@@ -23,24 +24,23 @@ loop-holds c = (omega arith, refl)
 mul-within : tie.Need-mul-within Inv-loop μ-loop
 mul-within c = search needs
 
-array-read-within : tie.Need-array-read-within Inv-loop μ-loop
-array-read-within c = search needs
+shared-slice-read-within : tie.Need-shared-slice-read-within Inv-loop μ-loop
+shared-slice-read-within c = search needs
 
 cast-within : tie.Need-cast-within Inv-loop μ-loop
-cast-within c = search needs
-
-long : (c : tie.Start Inv-loop μ-loop) → length (c .args .t1) ≡ 32
-long c = search (needs, length-mapped, c .good)
+cast-within c = omega (arith, c .shared-slice-known2 .given (c .before .before .loop .i))
 
 within-requires : tie.Need-within-requires Inv-loop μ-loop
 within-requires c κs = search needs
 
 returns : tie.Need-returns Inv-loop μ-loop
 returns c =
-    let l = c .before .before .before in
-    let s = l .before in
-    let f = failed (c .before .within .ensures) (c .if1 .taken) in
-    sym (all-fails (within pressures) (s .args .t1) (s .args .n) (l .loop .i) 0 (c .before .before .loop-test .taken) (omega (arith, long s)) f)
+    let l = c .before .before .before .before in
+    let s = l .before .before .args .pressures .now in
+    let f =
+    all-fails (within pressures) s (length s) (l .loop .i) 0 (c .before .before .before .loop-test .taken) (omega arith)
+    (failed (c .before .within .ensures) (c .if1 .taken)) in
+    sym (rw (take-all (length s) s (omega arith)) at f)
 
 add-i : tie.Need-add-i Inv-loop μ-loop
 add-i c = search needs
@@ -50,17 +50,15 @@ loop-less c = search needs
 
 loop-again : tie.Need-loop-again Inv-loop μ-loop
 loop-again c =
-    let l = c .before .before .before in
-    let s = l .before in
-    let h : l .loop .i < length (s .args .t1) = omega (arith, long s) in
-    let m = all-more (within pressures) (s .args .t1) (l .loop .i) 0 h in
+    let l = c .before .before .before .before in
+    let m = all-more (within pressures) (l .before .before .args .pressures .now) (l .loop .i) 0 (omega arith) in
     (omega arith, m ∙ and-join (l .loop .inv .1) (passed (c .before .within .ensures) (c .if1 .left)))
 
 returns-2 : tie.Need-returns-2 Inv-loop μ-loop
 returns-2 c =
     let l = c .before in
-    let e : l .loop .i ≡ l .before .args .n = omega arith in
-    sym (rw e at (l .loop .inv .1))
+    let s = l .before .before .args .pressures .now in
+    sym (rw (take-all (l .loop .i) s (omega arith)) at (l .loop .inv .1))
 
 pub pressures-fit-spec : {M : Type 1} → statement M
 pressures-fit-spec =
@@ -70,7 +68,7 @@ pressures-fit-spec =
     μ-loop
     loop-holds
     mul-within
-    array-read-within
+    shared-slice-read-within
     cast-within
     within-requires
     returns

@@ -8,7 +8,7 @@ use Rattle.exact.proofs.Bools.{and-join, passed, failed}
 use Rattle.model.specs.Lists.{allOf}
 use Rattle.model.proofs.Lists.{length-mapped, all-more, all-fails}
 use Rattle.areas.specs.Fits.{fitsUnder}
-use Rattle.rows.proofs.Stored.{noStored}
+use Rattle.areas.proofs.Facts.{noStored}
 use borrow.Author.Needs.{needs}
 use Rattle.rows.proofs.fits.sections_fit.Statement.{statement}
 use Rattle.rows.proofs.fits.sections_fit.Tie as tie

@@ -1,7 +1,7 @@
 use mathlib.Core.Path.{_≡_, ap, sym}
 use mathlib.Core.Bool.{true}
 use borrow.Author.Tests.{not-true, not-false}
-use Rattle.model.specs.Machine.{State, checkRefusal, turned-down}
+use Rattle.model.specs.Machine.{checkRefusal, turned-down}
 use Rattle.exact.proofs.Bools.{passed, failed}
 use Rattle.service.specs.Held.{whole}
 use Rattle.service.proofs.Facts.{not-held}

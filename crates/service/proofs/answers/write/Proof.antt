@@ -1,9 +1,7 @@
-use mathlib.Core.Path.{_≡_, refl}
-use mathlib.Core.Bool.{true}
+use mathlib.Core.Path.{refl}
 use Rattle.model.specs.declared.Refusal.the-variants as refusal
 use Rattle.model.specs.Calls.{write}
 use Rattle.exact.proofs.Bools.{passed, failed}
-use Rattle.service.specs.Held.{whole}
 use Rattle.service.proofs.Facts.{not-held}
 use Rattle.service.proofs.Turns.{refusal-of}
 use Rattle.service.proofs.Answered.{write-refused, write-done}

@@ -1,10 +1,11 @@
-use Prim.Native.Nat.{_≤_, _<_}
+use Prim.Native.Nat.{_<_}
 use mathlib.Core.Path.{_≡_, refl, sym, _∙_}
 use mathlib.Core.Bool.{true, false}
+use native.Mathlib.Omega.{arith}
 use lib.ListN.{length}
 use Rattle.model.specs.declared.Refusal.the-variants as refusal
 use Rattle.model.specs.Calls.{hang}
-use Rattle.model.specs.File.{numbered, fieldsInRange}
+use Rattle.model.specs.File.{numbered}
 use Rattle.exact.proofs.Bools.{passed, failed}
 use Rattle.model.proofs.Lists.{length-mapped}
 use Rattle.service.specs.Held.{whole}
@@ -37,7 +38,7 @@ abbrev roomy : tie.Else2 → tie.Else1
 roomy c = c .before .before
 
 room : (c : tie.Else2) → start (roomy c) .args .s .tower .held < 64
-room c = c .if2 .left
+room c = let h = c .if2 .left in omega (arith, h)
 
 abbrev fresh : tie.Else3 → tie.Else2
 fresh c = c .before .before .before

@@ -1,4 +1,3 @@
-use Prim.Native.Nat.{_≤_}
 use mathlib.Core.Path.{_≡_, refl, subst}
 use mathlib.Core.Bool.{Bool, true, false}
 use native.Mathlib.Omega.{arith}

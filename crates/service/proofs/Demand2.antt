@@ -1,0 +1,124 @@
+-- The customer's second demand: what the numbers of an accepted report are, and the two ways round of a tower file.
+use Prim.Native.Nat.{ℕ, _+_, _*_, _≤_, _<_}
+use mathlib.Core.Path.{_≡_, refl, ap, sym, subst, _∙_}
+use mathlib.Core.Bool.{true, false, true≢false}
+use mathlib.Core.List.{List, [], _++_}
+use mathlib.Core.Option.{Option, none}
+use native.Mathlib.Omega.{arith}
+use lib.ListN.{length, take, drop, getD}
+use lib.Seq.{take-at}
+use lib.Dec.{ltb}
+use borrow.Author.Tests.{le-ltb}
+use Rattle.model.specs.declared.WriteAnswer.{WriteAnswer}
+use Rattle.model.specs.declared.WriteAnswer.the-variants as write-answer
+use Rattle.model.specs.Lists.{sumTo, allOf}
+use Rattle.model.specs.Tower.{Tower, Wind}
+use Rattle.model.specs.Reading.{Parsed, got, refused}
+use Rattle.model.specs.File.{readFile}
+use Rattle.model.specs.Bytes.{fileOf}
+use Rattle.model.specs.Report.{heightAt, areasAt, forceAt, arm, shear, moment}
+use Rattle.model.specs.Machine.{State, standing, erected, erectStep, erectRefusal, fileRefusal, filled, writeOut, writeRefusal, WriteSays}
+use Rattle.model.specs.Calls.{bits, erect, write}
+use Rattle.model.specs.Valid.{ValidTower}
+use Rattle.model.proofs.Lists.{sumTo-same}
+use Rattle.model.proofs.Rows.{columns}
+use Rattle.model.proofs.Accepted.{same-bytes}
+use Rattle.model.proofs.RoundTrips.{same-tower}
+use Rattle.model.proofs.FileRefusals.{Numbered, number, file-numbered}
+use Rattle.model.proofs.Says.{write-length, write-room}
+use Rattle.service.specs.declared.State as stored
+use Rattle.service.specs.Held.{stateOf}
+use Rattle.service.specs.Outcomes.{Reply, answered, written, replyNumber, Says, by-number, by-write, Outcome}
+use Rattle.service.proofs.Links.{Link, link-state, link-lent, link-says, says-number}
+use Rattle.service.proofs.Demand3.{Shown, number-at}
+
+-- the numbers of section i: the areas of each flow class under the wind's ice, the force, the shear as the sum of the reported forces from the top, and the
+-- moment as the sum of those forces times their arms
+pub record Numbers (t : Tower) (w : Wind) (rows : List ℕ) (i : ℕ) : Type 0 where
+  pub flat : getD rows (6 * i + 0) 0 ≡ areasAt t w i .flat .0
+  pub subcritical : getD rows (6 * i + 1) 0 ≡ areasAt t w i .subcritical .0
+  pub supercritical : getD rows (6 * i + 2) 0 ≡ areasAt t w i .supercritical .0
+  pub force : getD rows (6 * i + 3) 0 ≡ forceAt t w i .0
+  pub shear : getD rows (6 * i + 4) 0 ≡ sumTo (λ j. getD rows (6 * j + 3) 0) (i + 1)
+  pub moment : getD rows (6 * i + 5) 0 ≡ sumTo (λ j. getD rows (6 * j + 3) 0 * arm (heightAt t) j (i + 1) .0) (i + 1)
+
+pub demand-2-rows : {m : State} {before after : List ℕ} (r : Shown m before after) (i : ℕ) → i < length (r .tower .sections) → Numbers (r .tower) (r .wind) after i
+unfolding shear moment
+demand-2-rows {m} {before} {after} r i h =
+    let t : Tower = r .tower in
+    let w : Wind = r .wind in
+    let f : (j : ℕ) → j < i + 1 → forceAt t w j .0 ≡ getD after (6 * j + 3) 0 =
+    λ j g. sym (number-at t w before after (r .rows) j 3 (omega arith) (omega arith) ∙ columns t w j .force) in
+    record {
+      flat = number-at t w before after (r .rows) i 0 h (omega arith) ∙ columns t w i .flat;
+      subcritical = number-at t w before after (r .rows) i 1 h (omega arith) ∙ columns t w i .subcritical;
+      supercritical = number-at t w before after (r .rows) i 2 h (omega arith) ∙ columns t w i .supercritical;
+      force = number-at t w before after (r .rows) i 3 h (omega arith) ∙ columns t w i .force;
+      shear =
+          number-at t w before after (r .rows) i 4 h (omega arith) ∙ columns t w i .shear-at-foot
+          ∙ sumTo-same (λ j. forceAt t w j .0) (λ j. getD after (6 * j + 3) 0) (i + 1) f;
+      moment =
+          number-at t w before after (r .rows) i 5 h (omega arith) ∙ columns t w i .moment-at-foot
+          ∙ sumTo-same (λ j. forceAt t w j .0 * arm (heightAt t) j (i + 1) .0) (λ j. getD after (6 * j + 3) 0 * arm (heightAt t) j (i + 1) .0) (i + 1)
+          (λ j g. ap (λ (n : ℕ). n * arm (heightAt t) j (i + 1) .0) (f j g));
+    }
+
+-- a file that erect accepts has a tower
+record Held (x : Parsed Tower) : Type 0 where
+  tower : Tower
+  rest : List ℕ
+  is : x ≡ got tower rest
+
+file-held : (x : Parsed Tower) → Numbered x → fileRefusal x ≡ 0 → Held x
+file-held (got t rest) n h = record { tower = t; rest = rest; is = refl }
+file-held (refused k) (number low high) h = absurd (omega arith)
+
+says-written : {m : State} {lent : List ℕ} {a : WriteAnswer} → Says m (write lent) (written a) → WriteSays m (length lent) a
+says-written (by-write h) = h
+
+-- a tower that stands, written where there is room
+module _ {s s′ : stored.State} {lent : List ℕ} {o : Outcome} (l : Link s (write lent) o s′) {t : Tower} {w : Option Wind} (e : stateOf s ≡ standing t w) where
+  lent-is : o .lent ≡ writeOut (standing t w) lent
+  lent-is = link-lent l ∙ ap (λ (m : State). writeOut m lent) e
+
+  reply-is : {r : Reply} → o .reply ≡ r → Says (standing t w) (write lent) r
+  reply-is {r} q = subst (λ (x : Reply). Says (standing t w) (write lent) x) q (subst (λ (m : State). Says m (write lent) (o .reply)) e (link-says l))
+
+  written-room : length (fileOf t) ≤ length lent → (o .reply ≡ written (write-answer.Written (length (fileOf t)))) × (o .lent ≡ fileOf t ++ drop (length (fileOf t)) lent)
+  unfolding filled
+  written-room h =
+      let f : ltb (length lent) (length (fileOf t)) ≡ false = le-ltb (length lent) (length (fileOf t)) h in
+      (reply-written (o .reply) (reply-is refl) (rw f refl), lent-is ∙ rw f refl)
+    where
+      reply-written : (r : Reply) → Says (standing t w) (write lent) r → writeRefusal (standing t w) (length lent) ≡ 0
+          → r ≡ written (write-answer.Written (length (fileOf t)))
+      reply-written (answered a) (by-number k g) z = absurd (true≢false (sym k))
+      reply-written (written a) (by-write g) z = ap written (write-room z g)
+
+  written-bytes : {n : ℕ} → o .reply ≡ written (write-answer.Written n) → take n (o .lent) ≡ fileOf t
+  unfolding filled
+  written-bytes {n} q =
+      let k : _ = write-length (says-written (reply-is q)) in
+      let f : o .lent ≡ fileOf t ++ drop (length (fileOf t)) lent = lent-is ∙ rw (k .0) refl in
+      ap (take n) f ∙ take-at (fileOf t) (drop (length (fileOf t)) lent) n (sym (k .1))
+
+-- a tower file read and written again has the same bytes
+pub demand-2-same-bytes : {s s₁ s₂ : stored.State} {file lent : List ℕ} {o p : Outcome} → allOf (bits 8) file ≡ true
+    → Link s (erect file) o s₁ → replyNumber (o .reply) ≡ 0 → Link s₁ (write lent) p s₂ → length file ≤ length lent
+    → (p .reply ≡ written (write-answer.Written (length file))) × (p .lent ≡ file ++ drop (length file) lent)
+unfolding erectRefusal erectStep
+demand-2-same-bytes {s = s} {file = file} {lent = lent} {p = p} typed l a k room =
+    let g : Held (readFile file) = file-held (readFile file) (file-numbered file) (sym (says-number (link-says l)) ∙ a) in
+    let e : _ = link-state l ∙ ap (erected (stateOf s)) (g .is) in
+    subst
+    (λ (x : List ℕ). length x ≤ length lent → (p .reply ≡ written (write-answer.Written (length x))) × (p .lent ≡ x ++ drop (length x) lent))
+    (same-bytes file typed (g .is)) (written-room k e) room
+
+-- a tower written and read again has the same sections and items
+pub demand-2-same-tower : {s s₁ s₂ s₃ : stored.State} {lent file : List ℕ} {o p : Outcome} {t : Tower} {w : Option Wind} {n : ℕ}
+    → ValidTower t → stateOf s ≡ standing t w → Link s (write lent) o s₁ → o .reply ≡ written (write-answer.Written n) → file ≡ take n (o .lent)
+    → Link s₂ (erect file) p s₃ → (replyNumber (p .reply) ≡ 0) × (stateOf s₃ ≡ standing t none)
+unfolding erectRefusal erectStep
+demand-2-same-tower {s₂ = s₂} {file = file} {t = t} v e l q f k =
+    let g : readFile file ≡ got t [] = ap readFile (f ∙ written-bytes l e q) ∙ same-tower t v in
+    (says-number (link-says k) ∙ ap fileRefusal g, link-state k ∙ ap (erected (stateOf s₂)) g)
