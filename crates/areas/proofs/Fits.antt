@@ -1,18 +1,21 @@
 -- The tests of a section that may stand under ice, and what is known of it.
-use Prim.Native.Nat.{_%_, _^_, _≤_}
-use mathlib.Core.Path.{_≡_, refl}
+use Prim.Native.Nat.{ℕ, _+_, _*_, _%_, _^_, _≤_}
+use mathlib.Core.Path.{_≡_, refl, ap, _∙_}
 use mathlib.Core.Bool.{Bool, true, false, _&&_, and-assoc, and-false}
+use mathlib.Core.List.{List, [], _∷_}
+use native.Mathlib.Nat.{mul-le-mul}
 use native.Mathlib.Omega.{arith}
 use lib.Dec.{leb, ltb, eqb}
 use lib.ListN.{length, take}
 use lib.Seq.{length-take-le}
 use borrow.Author.Tests.{leb-true, le-leb}
 use Rattle.units.specs.declared.Length.{Length}
+use Rattle.model.specs.declared.Group.{Group}
 use Rattle.model.specs.declared.Section.{Section}
-use Rattle.model.specs.Lists.{allOf}
+use Rattle.model.specs.Lists.{allOf, sumBy}
 use Rattle.model.specs.Ranges.{within, sectionWidth, sectionHeight, groupCount}
 use Rattle.model.specs.Tower.{sectionOf}
-use Rattle.model.specs.Areas.{gross, solidOf, bareSolid}
+use Rattle.model.specs.Areas.{sizeOf, groupArea, gross, solidOf, bareSolid}
 use Rattle.model.specs.Valid.{groupFits, sectionFits}
 use Rattle.exact.proofs.Bools.{and-split}
 use Rattle.model.proofs.Sections.{in-range}
@@ -51,6 +54,24 @@ size-facts s h =
       count = in-range groupCount _ (a .1) .high;
     }
 
+-- a larger number below a third says that a smaller one is
+both-below : (a b c : ℕ) → a ≤ b → (leb a c && leb b c) ≡ leb b c
+both-below a b c h = by-case (leb b c) refl
+  where
+    by-case : (x : Bool) → leb b c ≡ x → (leb a c && x) ≡ x
+    by-case true e = rw (le-leb a c (let k : b ≤ c = leb-true b c e in omega arith))
+    by-case false e = and-false (leb a c)
+
+-- ice adds to the area of each group
+group-more : (t : Length) (g : Group) → groupArea (record { 0 = 0 }) g .0 ≤ groupArea t g .0
+unfolding groupArea
+group-more t g = mul-le-mul {n₁ = sizeOf (g .member) .0 + 2 * 0} {m₁ = g .length .0} {n₂ = sizeOf (g .member) .0 + 2 * t .0} {m₂ = g .length .0} (omega arith) (omega arith)
+
+solid-more : (t : Length) (gs : List Group) → bareSolid gs .0 ≤ solidOf t gs .0
+unfolding solidOf sumBy
+solid-more t [] = omega arith
+solid-more t (g ∷ gs) = omega (arith, group-more t g, solid-more t gs)
+
 -- the tests in the order in which they are made
 module _ (t : Length) (s : Section) (long : length (s .groups) ≡ 8) where
   abbrev pub rest : Bool
@@ -70,3 +91,11 @@ module _ (t : Length) (s : Section) (long : length (s .groups) ≡ 8) where
   pub under-order : t .0 ≤ 50 → fitsUnder t s ≡ (sizesFit s && rest)
   unfolding fitsUnder
   under-order h = rw (le-leb _ _ h) (counted (leb (s .count) 8) refl)
+
+  -- ice adds to A_S, so that the test under ice is enough
+  pub under-iced : t .0 ≤ 50
+      → fitsUnder t s ≡ (sizesFit s && (allOf groupFits (sectionOf s .groups) && leb (solidOf t (sectionOf s .groups) .0) (gross (sectionOf s) .0)))
+  under-iced h =
+      under-order h
+      ∙ ap (λ (b : Bool). sizesFit s && (allOf groupFits (sectionOf s .groups) && b))
+      (both-below _ _ _ (solid-more t (sectionOf s .groups)))

@@ -14,7 +14,7 @@ use Rattle.model.specs.declared.Flow.the-variants as flow
 use Rattle.model.specs.declared.Group.{Group}
 use Rattle.model.specs.declared.Item.{Item}
 use Rattle.model.specs.Lists.{sumBy}
-use Rattle.model.specs.Areas.{sameFlow, flowOf, groupArea, areaIn, areasOf}
+use Rattle.model.specs.Areas.{sameFlow, flowOf, groupArea, areaIn, areasOf, solidOf}
 use Rattle.model.specs.Force.{itemPart, itemSum}
 use Rattle.model.proofs.Lists.{sumBy-none, sumBy-more}
 use Rattle.areas.specs.Sums.{Added}
@@ -52,6 +52,16 @@ areas-more t q l i d h a r e s =
     (omega (arith, ap (λ (x : Areas). x .flat .0) e))
     (omega (arith, ap (λ (x : Areas). x .subcritical .0) e))
     (omega (arith, ap (λ (x : Areas). x .supercritical .0) e))
+
+-- the same for A_S
+pub solid-none : (t : Length) → solidOf t [] .0 ≡ 0
+unfolding solidOf
+solid-none t = sumBy-none _
+
+pub solid-next : (t : Length) (l : List Group) (i : ℕ) (d : Group) → i < length l → (sum : ℕ) (a : Area)
+    → sum ≡ solidOf t (take i l) .0 → a ≡ groupArea t (getD l i d) → sum + a .0 ≡ solidOf t (take (i + 1) l) .0
+unfolding solidOf
+solid-next t l i d h sum a e f = omega (arith, sumBy-more (λ g. groupArea t g .0) l i d h, ap (λ (x : Area). x .0) f)
 
 -- the group's area goes to the sum of its class alone
 pub added : (class : Flow) (t : Length) (q : ℕ) (g : Group) (x : Area) (a r : Areas) → flowOf t q (g .member) ≡ class → x ≡ groupArea t g

@@ -11,8 +11,7 @@ ghost use Rattle.model.specs.File.{fieldsInRange};
 ghost use Rattle.model.specs.Valid.{groupFits};
 ghost use Rattle.areas.specs.Fits.{sizesFit, fitsUnder};
 use crate::section::gross_area;
-use crate::section::section_areas;
-use crate::section::solid_area;
+use crate::section::group_area;
 use model::Group;
 use model::Item;
 use model::Member;
@@ -116,10 +115,17 @@ pub fn solid_under(t: Length, s: Section) -> Area
     requires { ⌜ (t .0 ≤ 50) × (s .count ≤ 8) × (allOf groupFits (take (s .count) (s .groups)) ≡ true) ⌝ }
     ensures { λ r. ⌜ r ≡ solidOf t (take (s .count) (s .groups)) ⌝ }
 {
-    solid_area(section_areas(t, 0, s))
+    let n = s.count;
+    let mut sum: u64 = 0;
+    for i in 0usize..n {
+        let g = s.groups[i];
+        let a = group_area(t, g);
+        sum = sum + a.0;
+    }
+    Area(sum)
 }
 
-// A section that stands bare and under ice of thickness t: A_S is at most A_u both times.
+// A section that stands bare and under ice of thickness t: A_S is at most A_u under the ice, and so bare.
 pub fn fits_under(t: Length, s: Section) -> bool
     ensures { λ r. ⌜ r ≡ fitsUnder t s ⌝ }
 {
@@ -133,10 +139,6 @@ pub fn fits_under(t: Length, s: Section) -> bool
         return false;
     }
     let gross = gross_area(s);
-    let bare = solid_under(Length(0), s);
-    if gross.0 < bare.0 {
-        return false;
-    }
     let iced = solid_under(t, s);
     iced.0 <= gross.0
 }

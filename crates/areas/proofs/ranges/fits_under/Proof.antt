@@ -1,14 +1,13 @@
 use mathlib.Core.Path.{_≡_}
 use mathlib.Core.Bool.{true}
-use native.Mathlib.Omega.{arith}
 use lib.ListN.{length, take}
-use borrow.Author.Tests.{le-leb, lt-leb}
+use borrow.Author.Tests.{lt-leb}
 use Rattle.model.specs.Lists.{allOf}
 use Rattle.model.specs.Valid.{groupFits}
 use Rattle.areas.specs.Fits.{fitsUnder, sizesFit}
 use Rattle.exact.proofs.Bools.{passed, failed}
 use Rattle.model.proofs.Lists.{length-mapped}
-use Rattle.areas.proofs.Fits.{size-facts, under-order}
+use Rattle.areas.proofs.Fits.{size-facts, under-iced}
 use borrow.Author.Needs.{needs}
 use Rattle.areas.proofs.ranges.fits_under.Statement.{statement}
 use Rattle.areas.proofs.ranges.fits_under.Tie as tie
@@ -26,7 +25,7 @@ sizes-fit-requires c κs = search needs
 returns-2 : tie.Need-returns-2
 returns-2 c =
     let s = c .before .before .before .before in
-    rw (under-order (s .args .t) (s .args .s) (long s) (c .before .before .if1 .left), failed (c .before .sizes-fit .ensures) (c .if2 .taken))
+    rw (under-iced (s .args .t) (s .args .s) (long s) (c .before .before .if1 .left), failed (c .before .sizes-fit .ensures) (c .if2 .taken))
 
 sizes : (c : tie.Else2) → sizesFit (c .before .before .before .before .args .s) ≡ true
 sizes c = passed (c .before .sizes-fit .ensures) (c .if2 .left)
@@ -38,7 +37,7 @@ returns-3 : tie.Need-returns-3
 returns-3 c =
     let s = c .before .before .before .before .before .before in
     rw (
-      under-order (s .args .t) (s .args .s) (long s) (c .before .before .before .before .if1 .left),
+      under-iced (s .args .t) (s .args .s) (long s) (c .before .before .before .before .if1 .left),
       sizes (c .before .before),
       failed (c .before .groups-fit .ensures) (c .if3 .taken),
     )
@@ -52,33 +51,21 @@ gross-area-requires c κs =
     (f .width, f .height)
 
 solid-under-requires : tie.Need-solid-under-requires
-solid-under-requires c κs = (omega arith, size-facts _ (sizes (c .before .before .before)) .count, groups (c .before))
+solid-under-requires c κs =
+    let k = c .before in
+    (k .before .before .before .before .if1 .left, size-facts _ (sizes (k .before .before)) .count, groups k)
 
 returns-4 : tie.Need-returns-4
 returns-4 c =
-    let k = c .before .before .before .before .before in
+    let a = c .before .before in
+    let k = a .before .before in
     let s = k .before .before .before .before .before .before in
-    let h = rw (c .before .before .before .before .gross-area .ensures .0, c .before .before .before .solid-under .ensures) at (c .if4 .taken) in
-    rw (under-order (s .args .t) (s .args .s) (long s) (k .before .before .before .before .if1 .left), sizes (k .before .before), groups k, lt-leb _ _ h)
-
-solid-under-requires-2 : tie.Need-solid-under-requires-2
-solid-under-requires-2 c κs =
-    let k = c .before .before .before .before .before in
-    (k .before .before .before .before .if1 .left, size-facts _ (sizes (k .before .before)) .count, groups k)
-
-returns-5 : tie.Need-returns-5
-returns-5 c =
-    let d = c .before .before .before in
-    let k = d .before .before .before .before .before in
-    let s = k .before .before .before .before .before .before in
-    let h = rw (d .before .before .before .before .gross-area .ensures .0, d .before .before .before .solid-under .ensures) at (d .if4 .left) in
     rw (
-      under-order (s .args .t) (s .args .s) (long s) (k .before .before .before .before .if1 .left),
+      under-iced (s .args .t) (s .args .s) (long s) (k .before .before .before .before .if1 .left),
       sizes (k .before .before),
       groups k,
-      le-leb _ _ h,
-      c .before .before .solid-under2 .ensures,
-      d .before .before .before .before .gross-area .ensures .0,
+      a .solid-under .ensures,
+      a .before .gross-area .ensures .0,
     )
 
 pub fits-under-spec : {M : Type 1} → statement M
@@ -92,6 +79,4 @@ fits-under-spec =
     returns-3
     gross-area-requires
     solid-under-requires
-    returns-4
-    solid-under-requires-2
-    returns-5)
+    returns-4)
