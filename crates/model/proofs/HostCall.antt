@@ -21,7 +21,7 @@ use Rattle.model.proofs.Refused.{filled-refused}
 use Rattle.model.proofs.FileRefusals.{Numbered, taken, number, file-numbered}
 
 -- 2 bytes a pressure
-pressures-count : (m : ℕ) (ps : List ℕ) → length ps ≡ 2 * m → length (pressuresOf ps) ≡ m
+pub pressures-count : (m : ℕ) (ps : List ℕ) → length ps ≡ 2 * m → length (pressuresOf ps) ≡ m
 unfolding pressuresOf
 pressures-count m [] h = omega arith
 pressures-count m (a ∷ []) h = absurd (omega arith)
@@ -49,7 +49,7 @@ then-rule : (b : Bool) (n rest alone next : ℕ) → (n ≡ 0 → ⊥) → rest 
 then-rule true n rest alone next h e = rw (ne-eqb n 0 h)
 then-rule false n rest alone next h e = e
 
-wind-then : (t : Tower) (w : Wind) (counted : Bool) (next : ℕ)
+pub wind-then : (t : Tower) (w : Wind) (counted : Bool) (next : ℕ)
     → windRules t w counted next ≡ cond (eqb (windRules t w counted 0) 0) next (windRules t w counted 0)
 wind-then t w counted next =
     then-rule (not (directionFits (t .legs) (w .direction))) 15 _ _ next (omega arith)

@@ -1,0 +1,3 @@
+pub mod Pressures
+pub mod RowsOut
+pub mod InOrder
