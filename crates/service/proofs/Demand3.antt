@@ -53,10 +53,15 @@ pub record Shown (m : State) (before after : List ℕ) : Type 0 where
 
 -- an entry, beside the machine's state m
 pub record Entry (m : State) (c : Call) (o : Outcome) : Type 0 where
+  -- the answer has the number of the first refusal whose condition is met, or 0; so it is accepted exactly if none is
   pub number : replyNumber (o .reply) ≡ refusalOf m c
+  -- what check and write answer beside it
   pub says : Says m c (o .reply)
+  -- every element of the lent slice
   pub lent : o .lent ≡ lentAfter m c
+  -- a refused call changes nothing
   pub refused : (refusalOf m c ≡ 0 → ⊥) → (step m c ≡ m) × (o .lent ≡ lentBefore c)
+  -- a report that is accepted
   pub shown : (before : List ℕ) → c ≡ report before → replyNumber (o .reply) ≡ 0 → Shown m before (o .lent)
 
 -- every entry of a list, the machine being given the same list
