@@ -26,9 +26,9 @@ use Rattle.model.proofs.HostCall.{pressures-count, wind-then, host-out-refused}
 use Rattle.model.proofs.Says.{refusal-positive}
 use Rattle.model.proofs.Sections.{in-range}
 use Rattle.service.specs.declared.State as stored
-use Rattle.service.specs.declared.Turn.{Turn}
+use Rattle.service.specs.declared.Step.{Step}
 use Rattle.service.specs.Held.{whole, windIn, stateOf}
-use Rattle.service.specs.Promises.{Turned, windAsked}
+use Rattle.service.specs.Promises.{Steps, windAsked}
 use Rattle.service.proofs.Facts.{not-held, is-held, machineTower, machineWind}
 use Rattle.host.specs.Promises.{Hosts, pressuresAsked, RowsLent}
 
@@ -75,7 +75,7 @@ erected-by file s (got t rest) r taken e f =
       state = f ∙ ap (λ (x : Tower). standing x none) (sym same);
     }
 
-pub erect-accepted : (file : List ℕ) (s : stored.State) {r : Turn} → stateOf s ≡ no-tower → Turned (erect file) s r
+pub erect-accepted : (file : List ℕ) (s : stored.State) {r : Step} → stateOf s ≡ no-tower → Steps (erect file) s r
     → r .answer ≡ answer.Accepted → Erected file (r .state)
 unfolding erectRefusal erectStep
 erect-accepted file s {r} f h a =
@@ -134,7 +134,7 @@ module _ (file : List ℕ) (k ice factor : ℕ) (ps : List ℕ) where
   by-file (got t rest) room h = absurd (omega arith)
   by-file (refused n) room h = refl
 
-  pub erect-refused : (s : stored.State) {r : Turn} {e : Refusal} {n : ℕ} {lent : List ℕ} → Turned (erect file) s r → r .answer ≡ answer.Refused e
+  pub erect-refused : (s : stored.State) {r : Step} {e : Refusal} {n : ℕ} {lent : List ℕ} → Steps (erect file) s r → r .answer ≡ answer.Refused e
       → n ≡ refusalNumber e → Hosts file k ice factor ps lent lent n
   unfolding hostRefusal erectRefusal
   erect-refused s {r} {e} {n} {lent} h a m =
@@ -166,7 +166,7 @@ module _ (file : List ℕ) (k ice factor : ℕ) (ps : List ℕ) where
         ∙ in-order tower k ice factor ps some-section _
         ∙ ap (λ (n : ℕ). cond (eqb n 0) (refuseIf (ltb room (48 * length (tower .sections))) 22 0) n) (sym wind-number)
 
-    pub wind-refused : {r : Turn} {e : Refusal} {n : ℕ} {lent : List ℕ} → Turned (wind askedWind) s r → r .answer ≡ answer.Refused e → n ≡ refusalNumber e
+    pub wind-refused : {r : Step} {e : Refusal} {n : ℕ} {lent : List ℕ} → Steps (wind askedWind) s r → r .answer ≡ answer.Refused e → n ≡ refusalNumber e
         → Hosts file k ice factor ps lent lent n
     wind-refused {r} {e} {n} {lent} g a m =
         let p : 0 < refusalNumber e = refusal-positive e in
@@ -174,7 +174,7 @@ module _ (file : List ℕ) (k ice factor : ℕ) (ps : List ℕ) where
         let z : eqb (refusalOf (stateOf s) (wind askedWind)) 0 ≡ false = ne-eqb _ 0 (λ (y : refusalOf (stateOf s) (wind askedWind) ≡ 0). omega arith) in
         turned-down (f ∙ sym (host-number (length lent) ∙ rw z)) (omega arith)
 
-    module _ {r : Turn} (g : Turned (wind askedWind) s r) (a : r .answer ≡ answer.Accepted) where
+    module _ {r : Step} (g : Steps (wind askedWind) s r) (a : r .answer ≡ answer.Accepted) where
       accepted : refusalOf (stateOf s) (wind askedWind) ≡ 0
       accepted = sym (g .answer) ∙ ap answerNumber a
 

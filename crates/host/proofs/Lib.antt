@@ -1,3 +1,4 @@
 pub mod Pressures
 pub mod RowsOut
 pub mod InOrder
+pub mod Called

@@ -10,9 +10,9 @@ use Rattle.model.specs.Calls.{wind}
 use Rattle.model.specs.Host.{pressuresOf}
 use Rattle.model.proofs.HostCall.{pressures-count}
 use Rattle.service.specs.declared.State.{State}
-use Rattle.service.specs.declared.Turn.{Turn}
+use Rattle.service.specs.declared.Step.{Step}
 use Rattle.service.specs.Held.{whole}
-use Rattle.service.specs.Promises.{Turned, windAsked}
+use Rattle.service.specs.Promises.{Steps, windAsked}
 use Rattle.service.proofs.Facts.{machineTower, section-count}
 use Rattle.service.proofs.Filled.{copied-more}
 use Rattle.host.specs.Promises.{pressuresAsked}
@@ -35,18 +35,18 @@ pressures-more l kept n i e h k so =
 
 -- wind with the pressures that it is given
 module _ (k ice factor : ℕ) (s : State) (ps : List ℕ) (held : whole s ≡ true) (wide : length (s .tower .sections) ≡ 32) where
-  abbrev Winds : Turn → List ℕ → Type 0
-  Winds r l = Turned (wind (windAsked k ice factor l)) s r
+  abbrev Winds : Step → List ℕ → Type 0
+  Winds r l = Steps (wind (windAsked k ice factor l)) s r
 
   abbrev sections : ℕ
   sections = length (machineTower s .sections)
 
-  pub asked-none : {r : Turn} → (length ps ≡ 2 * s .tower .count → ⊥) → Winds r [] → Winds r (pressuresAsked sections ps)
+  pub asked-none : {r : Step} → (length ps ≡ 2 * s .tower .count → ⊥) → Winds r [] → Winds r (pressuresAsked sections ps)
   asked-none h t =
       let c : sections ≡ s .tower .count = section-count s held wide in
       rw (ne-eqb (length ps) (2 * sections) (λ (e : length ps ≡ 2 * sections). h (omega arith))) t
 
-  pub asked-all : {r : Turn} {l : List ℕ} → length ps ≡ 2 * s .tower .count → l ≡ pressuresOf ps → Winds r l
+  pub asked-all : {r : Step} {l : List ℕ} → length ps ≡ 2 * s .tower .count → l ≡ pressuresOf ps → Winds r l
       → Winds r (pressuresAsked sections ps)
   asked-all {r} h e t =
       let c : sections ≡ s .tower .count = section-count s held wide in

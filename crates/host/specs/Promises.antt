@@ -10,7 +10,7 @@ use Rattle.model.specs.Bytes.{bytes}
 use Rattle.model.specs.Tower.{towerOf}
 use Rattle.model.specs.Machine.{refuseIf, filled, rowsIn}
 use Rattle.model.specs.Host.{pressuresOf, hostRefusal, hostOut}
-use Rattle.service.specs.declared.State.{State}
+use Rattle.service.specs.declared.State as stored
 use Rattle.service.specs.Held.{stateOf}
 
 -- the answer is 0 or the number of the first refusal whose condition is met, and every lent byte is the definition's
@@ -23,6 +23,6 @@ abbrev pub pressuresAsked : ℕ → List ℕ → List ℕ
 pressuresAsked n ps = cond (eqb (length ps) (2 * n)) (pressuresOf ps) []
 
 -- the rows of a tower under a wind, 8 bytes a number; 22 where there are fewer than 48 bytes per section
-pub record RowsLent (s : State) (before after : List ℕ) (r : ℕ) : Type 0 where
+pub record RowsLent (s : stored.State) (before after : List ℕ) (r : ℕ) : Type 0 where
   pub answer : r ≡ refuseIf (ltb (length before) (48 * length (towerOf (s .tower) .sections))) 22 0
   pub rows : after ≡ filled r (joined (bytes 8) (rowsIn (stateOf s))) before

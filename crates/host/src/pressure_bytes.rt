@@ -7,10 +7,10 @@ ghost use Rattle.model.specs.Tower.{towerOf};
 ghost use Rattle.model.specs.Host.{pressuresOf};
 ghost use Rattle.model.specs.Calls.{wind};
 ghost use Rattle.service.specs.Held.{whole};
-ghost use Rattle.service.specs.Promises.{Turned, windAsked};
+ghost use Rattle.service.specs.Promises.{Steps, windAsked};
 ghost use Rattle.host.specs.Promises.{pressuresAsked};
 use service::State;
-use service::Turn;
+use service::Step;
 use service::changes::set_wind;
 
 // So many pressures of 2 bytes each, high byte first.
@@ -28,10 +28,10 @@ fn pressures_of(bytes: &[u8], count: usize) -> [u16; 32]
     kept
 }
 
-// Where there are not 2 bytes per section, wind is given no pressure, so it turns the call down with 18 if not with 15, 16 or 17.
-pub(crate) fn set_wind_of(s: State, direction: u32, ice: u32, factor: u32, pressures: &[u8]) -> Turn
+// Where there are not 2 bytes per section, wind is given no pressure, so that a tower with a section turns it down with 18 if not with 15, 16 or 17.
+pub(crate) fn set_wind_of(s: State, direction: u32, ice: u32, factor: u32, pressures: &[u8]) -> Step
     requires { ⌜ whole s ≡ true ⌝ }
-    ensures { λ r. ⌜ Turned (wind (windAsked direction ice factor (pressuresAsked (length (towerOf (s .tower) .sections)) (now (pressures .entry))))) s r ⌝ }
+    ensures { λ r. ⌜ Steps (wind (windAsked direction ice factor (pressuresAsked (length (towerOf (s .tower) .sections)) (now (pressures .entry))))) s r ⌝ }
 {
     let tower = s.tower;
     let count = tower.count;

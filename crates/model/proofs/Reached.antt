@@ -41,7 +41,7 @@ pub valid-items : {t : Tower} → ValidTower t → (items : List Item) → lengt
 valid-items v items few fit new =
     record { count = v .count; sections = v .sections; held = within-range (record { low = omega arith; high = few }); items = fit; numbers = new }
 
-tower-in : {t : Tower} {w : Option Wind} → ValidState (standing t w) → ValidTower t
+pub tower-in : {t : Tower} {w : Option Wind} → ValidState (standing t w) → ValidTower t
 tower-in (calm v) = v
 tower-in (windy v) = v .tower
 

@@ -28,7 +28,7 @@ use Rattle.service.specs.declared.State as stored
 use Rattle.service.specs.Held.{fitsIn, whole, windIn, stateOf}
 use Rattle.service.specs.Promises.{Reports, Writes}
 use Rattle.service.proofs.Facts.{is-held, machineTower, section-count}
-use Rattle.service.proofs.Turns.{met, unmet, refusal-of}
+use Rattle.service.proofs.WaysOut.{met, unmet, refusal-of}
 
 -- write looks at the tower alone
 any-wind : {t : Tower} {v w : Option Wind} {room : ℕ} {r : WriteAnswer} → WriteSays (standing t v) room r → WriteSays (standing t w) room r

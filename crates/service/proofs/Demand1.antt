@@ -2,13 +2,13 @@
 use mathlib.Core.Path.{_≡_, refl, _∙_}
 use Rattle.model.specs.Calls.{Call, refusalOf, step, lentBefore, lentAfter}
 use Rattle.model.proofs.Refused.{refused-lent}
-use Rattle.service.specs.declared.State.{State}
+use Rattle.service.specs.declared.State as stored
 use Rattle.service.specs.Held.{stateOf}
 use Rattle.service.specs.Outcomes.{replyNumber, Says, Outcome}
 use Rattle.service.proofs.Links.{Link, erected, hung, taken-down, wind-set, reported, checked-for, written-out, link-state, link-lent, link-says, says-number}
 
 -- a call that is turned down hands back the very state that it was given
-pub link-untouched : {s s′ : State} {c : Call} {o : Outcome} → Link s c o s′ → (refusalOf (stateOf s) c ≡ 0 → ⊥) → s′ ≡ s
+pub link-untouched : {s s′ : stored.State} {c : Call} {o : Outcome} → Link s c o s′ → (refusalOf (stateOf s) c ≡ 0 → ⊥) → s′ ≡ s
 link-untouched (erected κ file p) h = p .untouched h
 link-untouched (hung p) h = p .untouched h
 link-untouched (taken-down p) h = p .untouched h
@@ -18,14 +18,14 @@ link-untouched (checked-for p) h = refl
 link-untouched (written-out κ out after p) h = refl
 
 -- the full answer, or the refusal whose condition is met first; where it is refused, state and lent slice are as they were
-pub record OneCall (s : State) (c : Call) (o : Outcome) (s′ : State) : Type 0 where
+pub record OneCall (s : stored.State) (c : Call) (o : Outcome) (s′ : stored.State) : Type 0 where
   pub number : replyNumber (o .reply) ≡ refusalOf (stateOf s) c
   pub says : Says (stateOf s) c (o .reply)
   pub state : stateOf s′ ≡ step (stateOf s) c
   pub lent : o .lent ≡ lentAfter (stateOf s) c
   pub untouched : (replyNumber (o .reply) ≡ 0 → ⊥) → (s′ ≡ s) × (o .lent ≡ lentBefore c)
 
-pub demand-1 : {s s′ : State} {c : Call} {o : Outcome} → Link s c o s′ → OneCall s c o s′
+pub demand-1 : {s s′ : stored.State} {c : Call} {o : Outcome} → Link s c o s′ → OneCall s c o s′
 demand-1 {s = s} {c = c} l =
     let n : _ = says-number (link-says l) in
     record {

@@ -3,12 +3,12 @@ use Prim.Native.Nat.{ℕ, _+_, _*_, _≤_, _<_}
 use mathlib.Core.Path.{_≡_, refl, ap, sym, subst, _∙_}
 use mathlib.Core.Bool.{true, false, true≢false}
 use mathlib.Core.List.{List, [], _++_}
-use mathlib.Core.Option.{Option, none}
+use mathlib.Core.Option.{Option, none, some}
 use native.Mathlib.Omega.{arith}
 use lib.ListN.{length, take, drop, getD}
 use lib.Seq.{take-at}
 use lib.Dec.{ltb}
-use borrow.Author.Tests.{le-ltb}
+use borrow.Author.Tests.{le-ltb, ltb-false}
 use Rattle.model.specs.declared.WriteAnswer.{WriteAnswer}
 use Rattle.model.specs.declared.WriteAnswer.the-variants as write-answer
 use Rattle.model.specs.Lists.{sumTo, allOf}
@@ -16,12 +16,14 @@ use Rattle.model.specs.Tower.{Tower, Wind}
 use Rattle.model.specs.Reading.{Parsed, got, refused}
 use Rattle.model.specs.File.{readFile}
 use Rattle.model.specs.Bytes.{fileOf}
-use Rattle.model.specs.Report.{heightAt, areasAt, forceAt, arm, shear, moment}
-use Rattle.model.specs.Machine.{State, standing, erected, erectStep, erectRefusal, fileRefusal, filled, writeOut, writeRefusal, WriteSays}
-use Rattle.model.specs.Calls.{bits, erect, write}
-use Rattle.model.specs.Valid.{ValidTower}
+use Rattle.model.specs.Report.{rowAt, rowsOf, heightAt, areasAt, forceAt, arm, shear, moment}
+use Rattle.model.specs.Machine.{State, standing, erected, erectStep, erectRefusal, fileRefusal, filled, writeOut, writeRefusal, WriteSays, no-tower, reportRefusal, reportOut}
+use Rattle.model.specs.Calls.{Call, typed, report, bits, erect, write}
+use Rattle.model.specs.Valid.{ValidState, none-standing}
+use Rattle.model.proofs.Forces.{refuse-none}
+use Rattle.model.proofs.Reached.{tower-in, run-valid}
 use Rattle.model.proofs.Lists.{sumTo-same}
-use Rattle.model.proofs.Rows.{columns}
+use Rattle.model.proofs.Rows.{columns, report-rows}
 use Rattle.model.proofs.Accepted.{same-bytes}
 use Rattle.model.proofs.RoundTrips.{same-tower}
 use Rattle.model.proofs.FileRefusals.{Numbered, number, file-numbered}
@@ -29,8 +31,8 @@ use Rattle.model.proofs.Says.{write-length, write-room}
 use Rattle.service.specs.declared.State as stored
 use Rattle.service.specs.Held.{stateOf}
 use Rattle.service.specs.Outcomes.{Reply, answered, written, replyNumber, Says, by-number, by-write, Outcome}
-use Rattle.service.proofs.Links.{Link, link-state, link-lent, link-says, says-number}
-use Rattle.service.proofs.Demand3.{Shown, number-at}
+use Rattle.service.proofs.Links.{IsFresh, Chain, chain-state, Link, link-state, link-lent, link-says, says-number}
+use Rattle.service.proofs.Demand3.{number-at}
 
 -- the numbers of section i: the areas of each flow class under the wind's ice, the force, the shear as the sum of the reported forces from the top, and the
 -- moment as the sum of those forces times their arms
@@ -42,26 +44,36 @@ pub record Numbers (t : Tower) (w : Wind) (rows : List ℕ) (i : ℕ) : Type 0 w
   pub shear : getD rows (6 * i + 4) 0 ≡ sumTo (λ j. getD rows (6 * j + 3) 0) (i + 1)
   pub moment : getD rows (6 * i + 5) 0 ≡ sumTo (λ j. getD rows (6 * j + 3) 0 * arm (heightAt t) j (i + 1) .0) (i + 1)
 
-pub demand-2-rows : {m : State} {before after : List ℕ} (r : Shown m before after) (i : ℕ) → i < length (r .tower .sections) → Numbers (r .tower) (r .wind) after i
-unfolding shear moment
-demand-2-rows {m} {before} {after} r i h =
-    let t : Tower = r .tower in
-    let w : Wind = r .wind in
-    let f : (j : ℕ) → j < i + 1 → forceAt t w j .0 ≡ getD after (6 * j + 3) 0 =
-    λ j g. sym (number-at t w before after (r .rows) j 3 (omega arith) (omega arith) ∙ columns t w j .force) in
-    record {
-      flat = number-at t w before after (r .rows) i 0 h (omega arith) ∙ columns t w i .flat;
-      subcritical = number-at t w before after (r .rows) i 1 h (omega arith) ∙ columns t w i .subcritical;
-      supercritical = number-at t w before after (r .rows) i 2 h (omega arith) ∙ columns t w i .supercritical;
-      force = number-at t w before after (r .rows) i 3 h (omega arith) ∙ columns t w i .force;
-      shear =
-          number-at t w before after (r .rows) i 4 h (omega arith) ∙ columns t w i .shear-at-foot
-          ∙ sumTo-same (λ j. forceAt t w j .0) (λ j. getD after (6 * j + 3) 0) (i + 1) f;
-      moment =
-          number-at t w before after (r .rows) i 5 h (omega arith) ∙ columns t w i .moment-at-foot
-          ∙ sumTo-same (λ j. forceAt t w j .0 * arm (heightAt t) j (i + 1) .0) (λ j. getD after (6 * j + 3) 0 * arm (heightAt t) j (i + 1) .0) (i + 1)
-          (λ j g. ap (λ (n : ℕ). n * arm (heightAt t) j (i + 1) .0) (f j g));
-    }
+module _ {s s′ : stored.State} {lent : List ℕ} {o : Outcome} (l : Link s (report lent) o s′) {t : Tower} {w : Wind}
+    (e : stateOf s ≡ standing t (some w)) (a : replyNumber (o .reply) ≡ 0) where
+  rows-are : o .lent ≡ rowsOf t w ++ drop (6 * length (t .sections)) lent
+  rows-are =
+      let r : reportRefusal (standing t (some w)) (length lent) ≡ 0 =
+      sym (ap (λ (m : State). reportRefusal m (length lent)) e) ∙ sym (says-number (link-says l)) ∙ a in
+      let room : 6 * length (t .sections) ≤ length lent = ltb-false _ _ (refuse-none (ltb (length lent) (6 * length (t .sections))) 22 0 (omega arith) r .0) in
+      link-lent l ∙ ap (λ (m : State). reportOut m lent) e ∙ report-rows t w lent room
+
+  at : (i k : ℕ) → i < length (t .sections) → k < 6 → getD (o .lent) (6 * i + k) 0 ≡ getD (rowAt t w i) k 0
+  at = number-at t w lent (o .lent) rows-are
+
+  pub demand-2-rows : (i : ℕ) → i < length (t .sections) → Numbers t w (o .lent) i
+  unfolding shear moment
+  demand-2-rows i h =
+      let f : (j : ℕ) → j < i + 1 → forceAt t w j .0 ≡ getD (o .lent) (6 * j + 3) 0 =
+      λ j g. sym (at j 3 (omega arith) (omega arith) ∙ columns t w j .force) in
+      record {
+        flat = at i 0 h (omega arith) ∙ columns t w i .flat;
+        subcritical = at i 1 h (omega arith) ∙ columns t w i .subcritical;
+        supercritical = at i 2 h (omega arith) ∙ columns t w i .supercritical;
+        force = at i 3 h (omega arith) ∙ columns t w i .force;
+        shear =
+            at i 4 h (omega arith) ∙ columns t w i .shear-at-foot
+            ∙ sumTo-same (λ j. forceAt t w j .0) (λ j. getD (o .lent) (6 * j + 3) 0) (i + 1) f;
+        moment =
+            at i 5 h (omega arith) ∙ columns t w i .moment-at-foot
+            ∙ sumTo-same (λ j. forceAt t w j .0 * arm (heightAt t) j (i + 1) .0) (λ j. getD (o .lent) (6 * j + 3) 0 * arm (heightAt t) j (i + 1) .0) (i + 1)
+            (λ j g. ap (λ (n : ℕ). n * arm (heightAt t) j (i + 1) .0) (f j g));
+      }
 
 -- a file that erect accepts has a tower
 record Held (x : Parsed Tower) : Type 0 where
@@ -114,11 +126,12 @@ demand-2-same-bytes {s = s} {file = file} {lent = lent} {p = p} typed l a k room
     (λ (x : List ℕ). length x ≤ length lent → (p .reply ≡ written (write-answer.Written (length x))) × (p .lent ≡ x ++ drop (length x) lent))
     (same-bytes file typed (g .is)) (written-room k e) room
 
--- a tower written and read again has the same sections and items
-pub demand-2-same-tower : {s s₁ s₂ s₃ : stored.State} {lent file : List ℕ} {o p : Outcome} {t : Tower} {w : Option Wind} {n : ℕ}
-    → ValidTower t → stateOf s ≡ standing t w → Link s (write lent) o s₁ → o .reply ≡ written (write-answer.Written n) → file ≡ take n (o .lent)
+-- a tower written and read again has the same sections and items, whatever list of calls led to it
+pub demand-2-same-tower : {f s s₁ s₂ s₃ : stored.State} {cs : List Call} {os : List Outcome} {lent file : List ℕ} {o p : Outcome} {t : Tower} {w : Option Wind} {n : ℕ}
+    → IsFresh f → allOf typed cs ≡ true → Chain f cs os s → stateOf s ≡ standing t w → Link s (write lent) o s₁ → o .reply ≡ written (write-answer.Written n) → file ≡ take n (o .lent)
     → Link s₂ (erect file) p s₃ → (replyNumber (p .reply) ≡ 0) × (stateOf s₃ ≡ standing t none)
 unfolding erectRefusal erectStep
-demand-2-same-tower {s₂ = s₂} {file = file} {t = t} v e l q f k =
-    let g : readFile file ≡ got t [] = ap readFile (f ∙ written-bytes l e q) ∙ same-tower t v in
+demand-2-same-tower {s₂ = s₂} {cs = cs} {file = file} {t = t} fresh h ch e l q f k =
+    let v : ValidState (standing t _) = subst ValidState (sym (chain-state no-tower fresh ch) ∙ e) (run-valid no-tower cs h none-standing) in
+    let g : readFile file ≡ got t [] = ap readFile (f ∙ written-bytes l e q) ∙ same-tower t (tower-in v) in
     (says-number (link-says k) ∙ ap fileRefusal g, link-state k ∙ ap (erected (stateOf s₂)) g)

@@ -9,16 +9,17 @@ use lib.Dec.{ltb}
 use lib.ListN.{length, take, drop, getD, List·getD-append}
 use lib.Seq.{take-at}
 use borrow.Author.Tests.{ltb-false}
+use Rattle.exact.specs.Number.{Within}
 use Rattle.exact.specs.Sum.{ExcessBelow}
 use Rattle.exact.proofs.Bools.{and-split}
 use Rattle.model.specs.declared.Item.{Item}
 use Rattle.model.specs.Lists.{allOf}
 use Rattle.model.specs.Tower.{Tower, Wind}
-use Rattle.model.specs.Report.{rowAt, rowsOf, shearTerms, momentTerms, armsTo}
+use Rattle.model.specs.Report.{exactAt, rowAt, rowsOf, shearTerms, momentTerms, armsTo}
 use Rattle.model.specs.Machine.{State, no-tower, standing, reportOut, reportRefusal}
 use Rattle.model.specs.Calls.{Call, report, typed, refusalOf, step, lentBefore, lentAfter, run, newlyErected}
 use Rattle.model.specs.Valid.{ValidWind, ValidState, none-standing, windy}
-use Rattle.model.proofs.Forces.{refuse-none}
+use Rattle.model.proofs.Forces.{refuse-none, force-within}
 use Rattle.model.proofs.Moments.{shear-excess, moment-excess}
 use Rattle.model.proofs.Rows.{columns, length-rows, row-at, report-rows}
 use Rattle.model.proofs.Reached.{step-valid}
@@ -29,8 +30,10 @@ use Rattle.service.specs.Held.{stateOf}
 use Rattle.service.specs.Outcomes.{replyNumber, Says, Outcome, isAccepted, lastLent}
 use Rattle.service.proofs.Links.{IsFresh, Link, Chain, none, more, link-state, link-lent, link-says, says-number, chain-state, chain-accepted, chain-lent}
 
--- the excess of every reported shear and moment is never negative, and below so many newtons times the sections down to the foot, or times the sum of the arms
+-- the excess of every reported force is never negative and below so many newtons; that of every reported shear below them times the sections down to the foot,
+-- and that of every reported moment below them times the sum of the arms
 pub record Excess (newtons : ℕ) (t : Tower) (w : Wind) (rows : List ℕ) : Type 0 where
+  pub force : (i : ℕ) → i < length (t .sections) → Within newtons (exactAt t w i) (getD rows (6 * i + 3) 0)
   pub shear : (i : ℕ) → i < length (t .sections) → ExcessBelow (shearTerms t w (i + 1)) (getD rows (6 * i + 4) 0) (newtons * (i + 1))
   pub moment : (i : ℕ) → i < length (t .sections) → ExcessBelow (momentTerms t w (i + 1)) (getD rows (6 * i + 5) 0) (newtons * armsTo t (i + 1) .0)
 
@@ -41,11 +44,12 @@ pub record SameNewly (t : Tower) (w : Wind) (room : ℕ) (rows : List ℕ) : Typ
       → {f s : stored.State} {os : List Outcome} → IsFresh f → Chain f (newlyErected t items w lent) os s
       → (allOf isAccepted os ≡ true) × (take (6 * length (t .sections)) (lastLent os) ≡ take (6 * length (t .sections)) rows)
 
--- an accepted report: it stands for a tower under a wind, its six numbers a section are document 01's, and the rest of the slice stays
+-- an accepted report: it is that of a valid tower under a wind that it takes, its six numbers a section are document 01's, and the rest of the slice stays
 pub record Shown (m : State) (before after : List ℕ) : Type 0 where
   pub tower : Tower
   pub wind : Wind
   pub state : m ≡ standing tower (some wind)
+  pub valid : ValidWind tower wind
   pub rows : after ≡ rowsOf tower wind ++ drop (6 * length (tower .sections)) before
   pub excess : Excess 2 tower wind after
   pub closer : Excess 1 tower wind after
@@ -85,6 +89,9 @@ module _ (t : Tower) (w : Wind) (before after : List ℕ) (e : after ≡ rowsOf 
   excess-of : (newtons : ℕ) → 0 < newtons → ValidWind t w → Excess newtons t w after
   excess-of newtons p v =
       record {
+        force = λ i h.
+            subst (λ (n : ℕ). Within newtons (exactAt t w i) n) (sym (number-at i 3 h (omega arith) ∙ columns t w i .force))
+            (force-within t w v i h newtons p);
         shear = λ i h.
             subst (λ (n : ℕ). ExcessBelow (shearTerms t w (i + 1)) n (newtons * (i + 1))) (sym (number-at i 4 h (omega arith) ∙ columns t w i .shear-at-foot))
             (shear-excess t w v (i + 1) (omega arith) newtons p (omega arith));
@@ -118,6 +125,7 @@ shown-in (standing t (some w)) before after (windy v) h e =
       tower = t;
       wind = w;
       state = refl;
+      valid = v;
       rows = r;
       excess = excess-of t w before after r 2 (omega arith) v;
       closer = excess-of t w before after r 1 (omega arith) v;

@@ -32,9 +32,9 @@ use Rattle.tower_file.specs.Stored.{countsStored, ReadsFile}
 use Rattle.exact.proofs.Bools.{and-split, and-join}
 use Rattle.service.specs.declared.State as stored
 use Rattle.service.specs.Held.{whole, stateOf}
-use Rattle.service.specs.Promises.{Turned}
+use Rattle.service.specs.Promises.{Steps}
 use Rattle.service.proofs.Facts.{is-held, tower-fits}
-use Rattle.service.proofs.Turns.{accepted}
+use Rattle.service.proofs.WaysOut.{accepted}
 
 -- a lent slice of bytes holds bytes
 pub all-bytes : (l : List ℕ) → ((i : ℕ) → getD l i 0 < 2 ^ 8) → allOf (bits 8) l ≡ true
@@ -83,9 +83,9 @@ module _ (s : stored.State) (file : List ℕ) where
           items = all-weaker (itemFits (length (towerOf (r .tower) .sections))) fieldsInRange (λ it k. fit-parts _ it k .2) (towerOf (r .tower) .items) (v .items);
         })
 
-    pub file-accepted : Turned (erect file) s (record { state = newState (r .tower) w; answer = r .answer })
+    pub file-accepted : Steps (erect file) s (record { state = newState (r .tower) w; answer = r .answer })
     unfolding erectRefusal erectStep
     file-accepted =
-        subst (λ (x : Answer). Turned (erect file) s (record { state = newState (r .tower) w; answer = x })) (sym a)
+        subst (λ (x : Answer). Steps (erect file) s (record { state = newState (r .tower) w; answer = x })) (sym a)
         (accepted (erect file) s (newState (r .tower) w) (ap fileRefusal is-read)
         (is-held (newState (r .tower) w) new-whole ∙ sym (ap (erected (stateOf s)) is-read)))

@@ -43,13 +43,13 @@ use Rattle.model.proofs.NewlyErected.{newly-typed}
 use Rattle.areas.specs.Fits.{fitsUnder}
 use Rattle.tower_file.specs.Stored.{ReadsFile}
 use Rattle.exact.proofs.Bools.{clash, and-split}
-use Rattle.service.specs.declared.State.{State}
-use Rattle.service.specs.declared.Turn.{Turn}
+use Rattle.service.specs.declared.State as stored
+use Rattle.service.specs.declared.Step.{Step}
 use Rattle.service.specs.Held.{whole, stateOf}
-use Rattle.service.specs.Promises.{Turned, Reports, Writes}
+use Rattle.service.specs.Promises.{Steps, Reports, Writes}
 use Rattle.service.specs.Outcomes.{Outcome}
 use Rattle.service.proofs.Facts.{not-held, is-held, held-facts, machineTower, machineWind, withHeld, section-count, item-count}
-use Rattle.service.proofs.Turns.{turned-down, refusal-of, hang-done, down-done}
+use Rattle.service.proofs.WaysOut.{turned-down, refusal-of, hang-done, down-done}
 use Rattle.service.proofs.Winds.{all-under-ice, wind-done}
 use Rattle.service.proofs.Erects.{newState, file-accepted}
 use Rattle.service.proofs.Links.{IsFresh, Link, erected, hung, taken-down, wind-set, reported, checked-for, written-out, Chain, none, more}
@@ -57,35 +57,35 @@ use Rattle.areas.proofs.Facts.{noItem}
 use Rattle.service.proofs.Represented.{Named, Told, free, told, refusal-for, not-free, padded, length-padded, take-padded, noSection, eightGroups, storedTower, tower-back, counts-stored, sections-long, groups-long, items-long}
 
 -- what is asked of a state, as a value of its type: its arrays have the lengths of their types
-pub record Proper (s : State) : Type 0 where
+pub record Proper (s : stored.State) : Type 0 where
   pub sections : length (s .tower .sections) ≡ 32
   pub groups : allOf eightGroups (s .tower .sections) ≡ true
   pub items : length (s .tower .items) ≡ 64
   pub pressures : length (s .wind .pressures) ≡ 32
 
 -- a result of erect, hang, take down or wind that meets the call's promise
-record Turns (c : Call) (s : State) : Type 0 where
-  result : Turn
-  turned : Turned c s result
+record Stepped (c : Call) (s : stored.State) : Type 0 where
+  result : Step
+  steps : Steps c s result
   proper : Proper (result .state)
 
-turn-down : (c : Call) (s : State) → Proper s → Named (refusalOf (stateOf s) c) → Turns c s
-turn-down c s p n =
+refused-step : (c : Call) (s : stored.State) → Proper s → Named (refusalOf (stateOf s) c) → Stepped c s
+refused-step c s p n =
     record {
       result = record { state = s; answer = answer.Refused (n .why) };
-      turned = turned-down c s (n .why) (refl, refl) (n .number);
+      steps = turned-down c s (n .why) (refl, refl) (n .number);
       proper = p;
     }
 
-turns-by : (c : Call) (s : State) → Proper s → (refusalOf (stateOf s) c ≡ 0 → Turns c s) → Turns c s
-turns-by c s p done = by-case (refusal-for (stateOf s) c)
+step-by : (c : Call) (s : stored.State) → Proper s → (refusalOf (stateOf s) c ≡ 0 → Stepped c s) → Stepped c s
+step-by c s p done = by-case (refusal-for (stateOf s) c)
   where
-    by-case : Told (refusalOf (stateOf s) c) → Turns c s
+    by-case : Told (refusalOf (stateOf s) c) → Stepped c s
     by-case (free h) = done h
-    by-case (told n) = turn-down c s p n
+    by-case (told n) = refused-step c s p n
 
 -- where a call is accepted that a service without a tower turns down, a tower stands
-stands : (c : Call) (s : State) → (refusalOf no-tower c ≡ 0 → ⊥) → refusalOf (stateOf s) c ≡ 0 → whole s ≡ true
+stands : (c : Call) (s : stored.State) → (refusalOf no-tower c ≡ 0 → ⊥) → refusalOf (stateOf s) c ≡ 0 → whole s ≡ true
 stands c s never h = by-case (whole s) refl
   where
     by-case : (b : Bool) → whole s ≡ b → whole s ≡ true
@@ -93,19 +93,19 @@ stands c s never h = by-case (whole s) refl
     by-case false e = absurd (never (sym (refusal-of c (not-held s e) refl) ∙ h))
 
 -- and no rule for a standing tower turns it down
-rules-of : (c : Call) (s : State) → whole s ≡ true → refusalOf (stateOf s) c ≡ 0 → refusalOf (standing (machineTower s) (machineWind s)) c ≡ 0
+rules-of : (c : Call) (s : stored.State) → whole s ≡ true → refusalOf (stateOf s) c ≡ 0 → refusalOf (standing (machineTower s) (machineWind s)) c ≡ 0
 rules-of c s w h = sym (refusal-of c (is-held s w) refl) ∙ h
 
-hang-turns : (s : State) → Proper s → (it : Item) → Turns (hang it) s
-hang-turns s p it =
-    turns-by (hang it) s p λ h.
+hang-step : (s : stored.State) → Proper s → (it : Item) → Stepped (hang it) s
+hang-step s p it =
+    step-by (hang it) s p λ h.
     let w : whole s ≡ true = stands (hang it) s (λ z. omega arith) h in
     let f : _ = hang-facts (machineTower s) (machineWind s) it (rules-of (hang it) s w h) in
     let room : s .tower .held < 64 = omega (arith, f .room, item-count s w (p .items)) in
     let there : it .section < s .tower .count = omega (arith, f .there, section-count s w (p .sections)) in
     record {
       result = record { state = withHeld s (s .tower .held + 1) (set (s .tower .items) (s .tower .held) it); answer = answer.Accepted };
-      turned = hang-done s it w (p .items) (p .sections) room (f .new) there (f .fields);
+      steps = hang-done s it w (p .items) (p .sections) room (f .new) there (f .fields);
       proper =
           record {
             sections = p .sections;
@@ -115,9 +115,9 @@ hang-turns s p it =
           };
     }
 
-down-turns : (s : State) → Proper s → (n : ℕ) → Turns (takeDown n) s
-down-turns s p n =
-    turns-by (takeDown n) s p λ h.
+down-step : (s : stored.State) → Proper s → (n : ℕ) → Stepped (takeDown n) s
+down-step s p n =
+    step-by (takeDown n) s p λ h.
     let w : whole s ≡ true = stands (takeDown n) s (λ z. omega arith) h in
     let there : _ = refuse-none (not (numbered n (machineTower s .items))) 14 0 (λ z. omega arith) (rules-of (takeDown n) s w h) in
     let rest : List Item = without n (machineTower s .items) in
@@ -126,7 +126,7 @@ down-turns s p n =
     omega (arith, length-kept (λ (it : Item). not (eqb (it .number) n)) (machineTower s .items), item-count s w (p .items), held-facts s w .held) in
     record {
       result = record { state = withHeld s (length rest) (rest ++ behind); answer = answer.Accepted };
-      turned = down-done s n w (length rest) (rest ++ behind) (not-false _ (there .0)) few (take-append-seam rest behind);
+      steps = down-done s n w (length rest) (rest ++ behind) (not-false _ (there .0)) few (take-append-seam rest behind);
       proper =
           record {
             sections = p .sections;
@@ -136,9 +136,9 @@ down-turns s p n =
           };
     }
 
-wind-turns : (s : State) → Proper s → (x : Wind) → Turns (wind x) s
-wind-turns s p x =
-    turns-by (wind x) s p λ h.
+wind-step : (s : stored.State) → Proper s → (x : Wind) → Stepped (wind x) s
+wind-step s p x =
+    step-by (wind x) s p λ h.
     let w : whole s ≡ true = stands (wind x) s (λ z. omega arith) h in
     let f : _ =
     wind-facts (machineTower s) x (eqb (length (x .pressures)) (length (machineTower s .sections))) 0 (rules-of (wind x) s w h) in
@@ -152,14 +152,14 @@ wind-turns s p x =
           record {
             state =
                 record {
-                  standing = true;
+                  standing = s .standing;
                   tower = s .tower;
                   windy = true;
                   wind = record { direction = x .direction; ice = x .ice; factor = x .factor; pressures = kept };
                 };
             answer = answer.Accepted;
           };
-      turned =
+      steps =
           wind-done s (x .direction) (x .ice) (x .factor) (x .pressures) w (p .sections) (f .direction) (within-range (f .ice)) (within-range (f .factor))
           count (f .pressure) kept (take-padded 32 0 (x .pressures) (length (x .pressures)) refl) solid;
       proper =
@@ -181,29 +181,29 @@ tower-read file t rest h e =
       empty = tt;
     }
 
-erect-turns : (s : State) → Proper s → (file : List ℕ) → allOf (bits 8) file ≡ true → Turns (erect file) s
+erect-step : (s : stored.State) → Proper s → (file : List ℕ) → allOf (bits 8) file ≡ true → Stepped (erect file) s
 unfolding erectRefusal
-erect-turns s p file h = turns-by (erect file) s p (by-case (readFile file) refl)
+erect-step s p file h = step-by (erect file) s p (by-case (readFile file) refl)
   where
-    by-case : (r : Parsed Tower) → readFile file ≡ r → fileRefusal r ≡ 0 → Turns (erect file) s
+    by-case : (r : Parsed Tower) → readFile file ≡ r → fileRefusal r ≡ 0 → Stepped (erect file) s
     by-case (got t rest) e z =
         let v : ValidTower t = accepted-valid file h e in
         record {
           result = record { state = newState s file (storedTower t) (s .wind); answer = answer.Accepted };
-          turned = file-accepted s file h (tower-read file t rest h e) refl (s .wind);
+          steps = file-accepted s file h (tower-read file t rest h e) refl (s .wind);
           proper = record { sections = sections-long t v; groups = groups-long t v; items = items-long t v; pressures = p .pressures };
         }
     by-case (refused n) e z = absurd (not-free (subst Numbered e (file-numbered file)) z)
 
 -- report and write leave in the lent slice what the machine does, and answer with its number
-report-answers : (s : State) (lent : List ℕ) → (a : Answer) × Reports s lent (lentAfter (stateOf s) (report lent)) a
+report-answers : (s : stored.State) (lent : List ℕ) → (a : Answer) × Reports s lent (lentAfter (stateOf s) (report lent)) a
 report-answers s lent = by-case (refusal-for (stateOf s) (report lent))
   where
     by-case : Told (refusalOf (stateOf s) (report lent)) → (a : Answer) × Reports s lent (lentAfter (stateOf s) (report lent)) a
     by-case (free h) = (answer.Accepted, record { answer = sym h; rows = refl })
     by-case (told n) = (answer.Refused (n .why), record { answer = sym (n .number); rows = refl })
 
-write-answers : (s : State) (lent : List ℕ) → (a : WriteAnswer) × Writes s lent (lentAfter (stateOf s) (write lent)) a
+write-answers : (s : stored.State) (lent : List ℕ) → (a : WriteAnswer) × Writes s lent (lentAfter (stateOf s) (write lent)) a
 write-answers s lent = by-case (refusal-for (stateOf s) (write lent))
   where
     by-case : Told (refusalOf (stateOf s) (write lent)) → (a : WriteAnswer) × Writes s lent (lentAfter (stateOf s) (write lent)) a
@@ -245,25 +245,25 @@ abbrev lend : List ℕ → RefT (List ℕ)
 lend l = record { ptr = (0, 0); name = 0; now = l }
 
 -- each call has a link
-pub record Linked (s : State) (c : Call) : Type 0 where
+pub record Linked (s : stored.State) (c : Call) : Type 0 where
   pub outcome : Outcome
-  pub next : State
+  pub next : stored.State
   pub link : Link s c outcome next
   pub proper : Proper next
 
-pub link-exists : (s : State) → Proper s → (c : Call) → typed c ≡ true → Linked s c
+pub link-exists : (s : stored.State) → Proper s → (c : Call) → typed c ≡ true → Linked s c
 link-exists s p (erect file) h =
-    let r : Turns (erect file) s = erect-turns s p file h in
-    record { outcome = _; next = _; link = erected lifetime (lend file) (r .turned); proper = r .proper }
+    let r : Stepped (erect file) s = erect-step s p file h in
+    record { outcome = _; next = _; link = erected lifetime (lend file) (r .steps); proper = r .proper }
 link-exists s p (hang it) h =
-    let r : Turns (hang it) s = hang-turns s p it in
-    record { outcome = _; next = _; link = hung (r .turned); proper = r .proper }
+    let r : Stepped (hang it) s = hang-step s p it in
+    record { outcome = _; next = _; link = hung (r .steps); proper = r .proper }
 link-exists s p (takeDown n) h =
-    let r : Turns (takeDown n) s = down-turns s p n in
-    record { outcome = _; next = _; link = taken-down (r .turned); proper = r .proper }
+    let r : Stepped (takeDown n) s = down-step s p n in
+    record { outcome = _; next = _; link = taken-down (r .steps); proper = r .proper }
 link-exists s p (wind w) h =
-    let r : Turns (wind w) s = wind-turns s p w in
-    record { outcome = _; next = _; link = wind-set lifetime (lend (w .pressures)) (r .turned); proper = r .proper }
+    let r : Stepped (wind w) s = wind-step s p w in
+    record { outcome = _; next = _; link = wind-set lifetime (lend (w .pressures)) (r .steps); proper = r .proper }
 link-exists s p (report lent) h =
     record {
       outcome = _;
@@ -281,13 +281,13 @@ link-exists s p (write lent) h =
     }
 
 -- each list of calls has a chain
-pub record Chained (s : State) (cs : List Call) : Type 0 where
+pub record Chained (s : stored.State) (cs : List Call) : Type 0 where
   pub outcomes : List Outcome
-  pub last : State
+  pub last : stored.State
   pub chain : Chain s cs outcomes last
   pub proper : Proper last
 
-pub chain-exists : (s : State) → Proper s → (cs : List Call) → allOf typed cs ≡ true → Chained s cs
+pub chain-exists : (s : stored.State) → Proper s → (cs : List Call) → allOf typed cs ≡ true → Chained s cs
 chain-exists s p [] h = record { outcomes = []; last = s; chain = none; proper = p }
 chain-exists s p (c ∷ cs) h =
     let k : _ = and-split (typed c) (allOf typed cs) h in
@@ -296,7 +296,7 @@ chain-exists s p (c ∷ cs) h =
     record { outcomes = l .outcome ∷ r .outcomes; last = r .last; chain = more (l .link) (r .chain); proper = r .proper }
 
 -- the state that `fresh` hands back
-abbrev pub freshState : State
+abbrev pub freshState : stored.State
 freshState =
     record {
       standing = false;
@@ -311,10 +311,10 @@ fresh-exists = (not-held freshState refl, record { sections = refl; groups = ref
 
 -- each list of calls has a chain from a fresh service
 pub record Ran (cs : List Call) : Type 0 where
-  pub first : State
+  pub first : stored.State
   pub fresh : IsFresh first
   pub outcomes : List Outcome
-  pub last : State
+  pub last : stored.State
   pub chain : Chain first cs outcomes last
 
 pub every-list : (cs : List Call) → allOf typed cs ≡ true → Ran cs

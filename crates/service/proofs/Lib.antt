@@ -1,5 +1,5 @@
 pub mod Facts
-pub mod Turns
+pub mod WaysOut
 pub mod Winds
 pub mod Erects
 pub mod Answered

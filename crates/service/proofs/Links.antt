@@ -14,10 +14,11 @@ use Rattle.model.specs.declared.WriteAnswer.{WriteAnswer}
 use Rattle.model.specs.declared.Item.{Item}
 use Rattle.model.specs.Lists.{allOf}
 use Rattle.model.specs.Machine as machine
+use Rattle.model.specs.Machine.{State}
 use Rattle.model.specs.Calls.{Call, erect, hang, takeDown, wind, report, check, write, refusalOf, step, lentAfter, run, firstRefusal, lentLast}
 use Rattle.exact.proofs.Bools.{and-join}
-use Rattle.service.specs.declared.State.{State}
-use Rattle.service.specs.declared.Turn.{Turn}
+use Rattle.service.specs.declared.State as stored
+use Rattle.service.specs.declared.Step.{Step}
 use Rattle.service.specs.Held.{stateOf}
 use Rattle.service.specs.Promises.{windAsked}
 use Rattle.service.specs.Outcomes.{answered, checked, written, replyNumber, Says, by-number, by-check, by-write, Outcome, isAccepted, lastLent}
@@ -31,34 +32,34 @@ use Rattle.service.proofs.answers.check.Reads as check-reads
 use Rattle.service.proofs.answers.write.Reads as write-reads
 
 -- `fresh` handed back this state
-abbrev pub IsFresh : State → Type 0
+abbrev pub IsFresh : stored.State → Type 0
 IsFresh f = fresh-reads.Post tt tt f tt
 
 -- in this state this call had this outcome and left that state
-pub data Link : State → Call → Outcome → State → Type 0 where
-  erected : (κ : Lfts 1) {s : State} (file : RefT (List ℕ)) {r : Turn} → erect-reads.Post κ (s, (file, tt)) r (s, (file, tt))
+pub data Link : stored.State → Call → Outcome → stored.State → Type 0 where
+  erected : (κ : Lfts 1) {s : stored.State} (file : RefT (List ℕ)) {r : Step} → erect-reads.Post κ (s, (file, tt)) r (s, (file, tt))
       → Link s (erect (now file)) (record { reply = answered (r .answer); lent = now file }) (r .state)
-  hung : {s : State} {it : Item} {r : Turn} → hang-reads.Post tt (s, (it, tt)) r (s, (it, tt))
+  hung : {s : stored.State} {it : Item} {r : Step} → hang-reads.Post tt (s, (it, tt)) r (s, (it, tt))
       → Link s (hang it) (record { reply = answered (r .answer); lent = [] }) (r .state)
-  taken-down : {s : State} {n : ℕ} {r : Turn} → down-reads.Post tt (s, (n, tt)) r (s, (n, tt))
+  taken-down : {s : stored.State} {n : ℕ} {r : Step} → down-reads.Post tt (s, (n, tt)) r (s, (n, tt))
       → Link s (takeDown n) (record { reply = answered (r .answer); lent = [] }) (r .state)
-  wind-set : (κ : Lfts 1) {s : State} {k ice factor : ℕ} (ps : RefT (List ℕ)) {r : Turn}
+  wind-set : (κ : Lfts 1) {s : stored.State} {k ice factor : ℕ} (ps : RefT (List ℕ)) {r : Step}
       → wind-reads.Post κ (s, (k, (ice, (factor, (ps, tt))))) r (s, (k, (ice, (factor, (ps, tt)))))
       → Link s (wind (windAsked k ice factor (now ps))) (record { reply = answered (r .answer); lent = now ps }) (r .state)
-  reported : (κ : Lfts 1) {s : State} (out after : RefT (List ℕ)) {a : Answer} → report-reads.Post κ (s, (out, tt)) a (s, (after, tt))
+  reported : (κ : Lfts 1) {s : stored.State} (out after : RefT (List ℕ)) {a : Answer} → report-reads.Post κ (s, (out, tt)) a (s, (after, tt))
       → Link s (report (now out)) (record { reply = answered a; lent = now after }) s
-  checked-for : {s : State} {a : CheckAnswer} → check-reads.Post tt (s, tt) a (s, tt) → Link s check (record { reply = checked a; lent = [] }) s
-  written-out : (κ : Lfts 1) {s : State} (out after : RefT (List ℕ)) {a : WriteAnswer} → write-reads.Post κ (s, (out, tt)) a (s, (after, tt))
+  checked-for : {s : stored.State} {a : CheckAnswer} → check-reads.Post tt (s, tt) a (s, tt) → Link s check (record { reply = checked a; lent = [] }) s
+  written-out : (κ : Lfts 1) {s : stored.State} (out after : RefT (List ℕ)) {a : WriteAnswer} → write-reads.Post κ (s, (out, tt)) a (s, (after, tt))
       → Link s (write (now out)) (record { reply = written a; lent = now after }) s
 
 -- each call is given the state that the last one left
-pub data Chain : State → List Call → List Outcome → State → Type 0 where
-  none : {s : State} → Chain s [] [] s
-  more : {s s′ s″ : State} {c : Call} {o : Outcome} {cs : List Call} {os : List Outcome} → Link s c o s′ → Chain s′ cs os s″
+pub data Chain : stored.State → List Call → List Outcome → stored.State → Type 0 where
+  none : {s : stored.State} → Chain s [] [] s
+  more : {s s′ s″ : stored.State} {c : Call} {o : Outcome} {cs : List Call} {os : List Outcome} → Link s c o s′ → Chain s′ cs os s″
       → Chain s (c ∷ cs) (o ∷ os) s″
 
 -- each link: the state, the answer and the lent slice are the machine's
-pub link-state : {s s′ : State} {c : Call} {o : Outcome} → Link s c o s′ → stateOf s′ ≡ step (stateOf s) c
+pub link-state : {s s′ : stored.State} {c : Call} {o : Outcome} → Link s c o s′ → stateOf s′ ≡ step (stateOf s) c
 link-state (erected κ file p) = p .state
 link-state (hung p) = p .state
 link-state (taken-down p) = p .state
@@ -67,7 +68,7 @@ link-state (reported κ out after p) = refl
 link-state (checked-for p) = refl
 link-state (written-out κ out after p) = refl
 
-pub link-lent : {s s′ : State} {c : Call} {o : Outcome} → Link s c o s′ → o .lent ≡ lentAfter (stateOf s) c
+pub link-lent : {s s′ : stored.State} {c : Call} {o : Outcome} → Link s c o s′ → o .lent ≡ lentAfter (stateOf s) c
 link-lent (erected κ file p) = refl
 link-lent (hung p) = refl
 link-lent (taken-down p) = refl
@@ -76,7 +77,7 @@ link-lent (reported κ out after p) = p .rows
 link-lent (checked-for p) = refl
 link-lent (written-out κ out after p) = p .bytes
 
-pub link-says : {s s′ : State} {c : Call} {o : Outcome} → Link s c o s′ → Says (stateOf s) c (o .reply)
+pub link-says : {s s′ : stored.State} {c : Call} {o : Outcome} → Link s c o s′ → Says (stateOf s) c (o .reply)
 link-says (erected κ file p) = by-number refl (p .answer)
 link-says (hung p) = by-number refl (p .answer)
 link-says (taken-down p) = by-number refl (p .answer)
@@ -86,46 +87,46 @@ link-says (checked-for p) = by-check p
 link-says (written-out κ out after p) = by-write (p .answer)
 
 -- the number of an answer is that of the first refusal whose condition is met, or 0
-check-number : {m : machine.State} {a : CheckAnswer} → machine.CheckSays m a → replyNumber (checked a) ≡ machine.checkRefusal m
+check-number : {m : State} {a : CheckAnswer} → machine.CheckSays m a → replyNumber (checked a) ≡ machine.checkRefusal m
 check-number (machine.over h) = refl
 check-number (machine.none-over h) = refl
 check-number (machine.turned-down h) = h
 
-write-number : {m : machine.State} {room : ℕ} {a : WriteAnswer} → machine.WriteSays m room a → replyNumber (written a) ≡ machine.writeRefusal m room
+write-number : {m : State} {room : ℕ} {a : WriteAnswer} → machine.WriteSays m room a → replyNumber (written a) ≡ machine.writeRefusal m room
 write-number (machine.written h e) = sym h
 write-number (machine.turned-down h) = h
 
-pub says-number : {m : machine.State} {c : Call} {r : _} → Says m c r → replyNumber r ≡ refusalOf m c
+pub says-number : {m : State} {c : Call} {r : _} → Says m c r → replyNumber r ≡ refusalOf m c
 says-number (by-number k h) = h
 says-number (by-check h) = check-number h
 says-number (by-write h) = write-number h
 
 -- along a chain
-pub chain-state : {s s′ : State} {cs : List Call} {os : List Outcome} (m : machine.State) → stateOf s ≡ m → Chain s cs os s′ → stateOf s′ ≡ run m cs
+pub chain-state : {s s′ : stored.State} {cs : List Call} {os : List Outcome} (m : State) → stateOf s ≡ m → Chain s cs os s′ → stateOf s′ ≡ run m cs
 chain-state m e none = e
-chain-state m e (more {c = c} l ch) = chain-state (step m c) (link-state l ∙ ap (λ (x : machine.State). step x c) e) ch
+chain-state m e (more {c = c} l ch) = chain-state (step m c) (link-state l ∙ ap (λ (x : State). step x c) e) ch
 
-link-number : {s s′ : State} {c : Call} {o : Outcome} (m : machine.State) → stateOf s ≡ m → Link s c o s′ → replyNumber (o .reply) ≡ refusalOf m c
-link-number {c = c} m e l = says-number (link-says l) ∙ ap (λ (x : machine.State). refusalOf x c) e
+link-number : {s s′ : stored.State} {c : Call} {o : Outcome} (m : State) → stateOf s ≡ m → Link s c o s′ → replyNumber (o .reply) ≡ refusalOf m c
+link-number {c = c} m e l = says-number (link-says l) ∙ ap (λ (x : State). refusalOf x c) e
 
 -- where the machine turns no call down, all are accepted
-first-none : (m : machine.State) (c : Call) (cs : List Call) → firstRefusal m (c ∷ cs) ≡ 0 → (refusalOf m c ≡ 0) × (firstRefusal (step m c) cs ≡ 0)
+pub first-none : (m : State) (c : Call) (cs : List Call) → firstRefusal m (c ∷ cs) ≡ 0 → (refusalOf m c ≡ 0) × (firstRefusal (step m c) cs ≡ 0)
 first-none m c cs h = by-case (eqb (refusalOf m c) 0) refl
   where
     by-case : (b : Bool) → eqb (refusalOf m c) 0 ≡ b → (refusalOf m c ≡ 0) × (firstRefusal (step m c) cs ≡ 0)
     by-case true e = (eqb-true (refusalOf m c) 0 e, rw e at h)
     by-case false e = absurd (eqb-false (refusalOf m c) 0 e (rw e at h))
 
-pub chain-accepted : {s s′ : State} {cs : List Call} {os : List Outcome} (m : machine.State) → stateOf s ≡ m → Chain s cs os s′
+pub chain-accepted : {s s′ : stored.State} {cs : List Call} {os : List Outcome} (m : State) → stateOf s ≡ m → Chain s cs os s′
     → firstRefusal m cs ≡ 0 → allOf isAccepted os ≡ true
 chain-accepted m e none h = refl
 chain-accepted m e (more {c = c} {o = o} {cs = cs} l ch) h =
     let f : _ = first-none m c cs h in
     and-join (eq-eqb (replyNumber (o .reply)) 0 (link-number m e l ∙ f .0))
-    (chain-accepted (step m c) (link-state l ∙ ap (λ (x : machine.State). step x c) e) ch (f .1))
+    (chain-accepted (step m c) (link-state l ∙ ap (λ (x : State). step x c) e) ch (f .1))
 
 -- and the slice lent to the last call
-pub chain-lent : {s s′ : State} {cs : List Call} {os : List Outcome} (m : machine.State) → stateOf s ≡ m → Chain s cs os s′ → lastLent os ≡ lentLast m cs
+pub chain-lent : {s s′ : stored.State} {cs : List Call} {os : List Outcome} (m : State) → stateOf s ≡ m → Chain s cs os s′ → lastLent os ≡ lentLast m cs
 chain-lent m e none = refl
-chain-lent m e (more {c = c} l none) = link-lent l ∙ ap (λ (x : machine.State). lentAfter x c) e
-chain-lent m e (more {c = c} l (more k ch)) = chain-lent (step m c) (link-state l ∙ ap (λ (x : machine.State). step x c) e) (more k ch)
+chain-lent m e (more {c = c} l none) = link-lent l ∙ ap (λ (x : State). lentAfter x c) e
+chain-lent m e (more {c = c} l (more k ch)) = chain-lent (step m c) (link-state l ∙ ap (λ (x : State). step x c) e) (more k ch)

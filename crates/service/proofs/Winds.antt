@@ -22,9 +22,9 @@ use Rattle.areas.proofs.Fits.{under-facts}
 use Rattle.exact.proofs.Bools.{and-split, and-join}
 use Rattle.service.specs.declared.State as stored
 use Rattle.service.specs.Held.{whole, stateOf}
-use Rattle.service.specs.Promises.{Turned, windAsked}
+use Rattle.service.specs.Promises.{Steps, windAsked}
 use Rattle.service.proofs.Facts.{is-held, held-facts, machineTower, machineWind, section-count, tower-fits, wind-fits}
-use Rattle.service.proofs.Turns.{accepted, refusal-of, met, unmet}
+use Rattle.service.proofs.WaysOut.{accepted, refusal-of, met, unmet}
 
 -- of a section that stands bare, "A_S is at most A_u under the ice" is the opposite of "too solid"
 leb-ltb : (a b : ℕ) → leb a b ≡ not (ltb b a)
@@ -107,7 +107,7 @@ module _ (s : stored.State) (k ice factor : ℕ) (ps : List ℕ) (w : whole s �
             abbrev blown : List ℕ → stored.State
             blown kept =
                 record {
-                  standing = true;
+                  standing = s .standing;
                   tower = s .tower;
                   windy = true;
                   wind = record { direction = k; ice = ice; factor = factor; pressures = kept };
@@ -115,7 +115,7 @@ module _ (s : stored.State) (k ice factor : ℕ) (ps : List ℕ) (w : whole s �
 
             pub wind-done : (kept : List ℕ) → take (length ps) kept ≡ ps
                 → allOf (fitsUnder (thickness ice)) (take (s .tower .count) (s .tower .sections)) ≡ true
-                → Turned (wind (windAsked k ice factor ps)) s (record { state = blown kept; answer = answer.Accepted })
+                → Steps (wind (windAsked k ice factor ps)) s (record { state = blown kept; answer = answer.Accepted })
             unfolding stateOf whole
             wind-done kept same e =
                 let t : take (s .tower .count) kept ≡ ps = subst (λ (m : ℕ). take m kept ≡ ps) n same in
@@ -125,7 +125,8 @@ module _ (s : stored.State) (k ice factor : ℕ) (ps : List ℕ) (w : whole s �
                 (unmet 17 (ap not f) (unmet 18 (ap not counted) (unmet 19 (ap not p) (unmet {b = tooSolid} 20 (not-true tooSolid (sym solid ∙ e)) refl))))) in
                 let h : _ = held-facts s w in
                 let a : whole (blown kept) ≡ true =
-                and-join (wind-fits (s .tower .count) (blown kept .wind) i f (ap (allOf (within pressures)) t ∙ p))
-                (tower-fits (record { count = h .count; sections = e; held = h .held; items = h .items })) in
+                and-join (and-split (s .standing) _ w .0)
+                (and-join (wind-fits (s .tower .count) (blown kept .wind) i f (ap (allOf (within pressures)) t ∙ p))
+                (tower-fits (record { count = h .count; sections = e; held = h .held; items = h .items }))) in
                 accepted (wind (windAsked k ice factor ps)) s (blown kept) (from r)
                 (is-held (blown kept) a ∙ rw (t, is-held s w, r))

@@ -4,10 +4,10 @@ ghost use Prim.Native.Nat.{_≤_};
 ghost use lib.ListN.{length, take};
 ghost use Rattle.model.specs.Machine as machine;
 ghost use Rattle.model.specs.Calls as call;
-ghost use Rattle.service.specs.Promises.{Turned, windAsked};
+ghost use Rattle.service.specs.Promises.{Steps, windAsked};
 use crate::HeldItems;
 use crate::State;
-use crate::Turn;
+use crate::Step;
 use crate::whole::NO_WIND;
 use crate::whole::is_whole;
 use crate::whole::refused;
@@ -27,8 +27,8 @@ use rows::fits::pressures_fit;
 use rows::fits::sections_fit;
 
 // The tower of the file in place of everything, and no wind.
-pub fn erect(s: State, file: &[u8]) -> Turn
-    ensures { λ r. ⌜ Turned (call.erect (now (file .entry))) s r ⌝ }
+pub fn erect(s: State, file: &[u8]) -> Step
+    ensures { λ r. ⌜ Steps (call.erect (now (file .entry))) s r ⌝ }
 {
     let read = tower_file::file::read(file);
     let answer = read.answer;
@@ -42,15 +42,15 @@ pub fn erect(s: State, file: &[u8]) -> Turn
                 windy: false,
                 wind,
             };
-            Turn { state, answer }
+            Step { state, answer }
         }
         Answer::Refused(e) => refused(s, e),
     }
 }
 
 // One item more, at the end of the list.
-pub fn hang(s: State, item: Item) -> Turn
-    ensures { λ r. ⌜ Turned (call.hang item) s r ⌝ }
+pub fn hang(s: State, item: Item) -> Step
+    ensures { λ r. ⌜ Steps (call.hang item) s r ⌝ }
 {
     if !is_whole(s) {
         return refused(s, Refusal::NoTower);
@@ -75,7 +75,7 @@ pub fn hang(s: State, item: Item) -> Turn
     let mut state = s;
     state.tower = tower;
     let answer = Answer::Accepted;
-    Turn { state, answer }
+    Step { state, answer }
 }
 
 // Those of the first items that have another number, in their order.
@@ -99,8 +99,8 @@ fn without(number: u16, items: [Item; 64], held: usize) -> HeldItems
 }
 
 // The item with this number removed; the others keep their order.
-pub fn take_down(s: State, number: u16) -> Turn
-    ensures { λ r. ⌜ Turned (call.takeDown number) s r ⌝ }
+pub fn take_down(s: State, number: u16) -> Step
+    ensures { λ r. ⌜ Steps (call.takeDown number) s r ⌝ }
 {
     if !is_whole(s) {
         return refused(s, Refusal::NoTower);
@@ -118,7 +118,7 @@ pub fn take_down(s: State, number: u16) -> Turn
     let mut state = s;
     state.tower = tower;
     let answer = Answer::Accepted;
-    Turn { state, answer }
+    Step { state, answer }
 }
 
 // With three legs only even k.
@@ -131,6 +131,7 @@ fn direction_fits(legs: Legs, k: u32) -> bool
     }
 }
 
+// The pressures at the front of an array.
 fn stored(pressures: &[u16]) -> [u16; 32]
     requires { ⌜ length (now pressures) ≤ 32 ⌝ }
     ensures { λ r. ⌜ take (length (now (pressures .entry))) r ≡ now (pressures .entry) ⌝ }
@@ -143,8 +144,8 @@ fn stored(pressures: &[u16]) -> [u16; 32]
 }
 
 // Another wind in place of the last.
-pub fn set_wind(s: State, direction: u32, ice: u32, factor: u32, pressures: &[u16]) -> Turn
-    ensures { λ r. ⌜ Turned (call.wind (windAsked direction ice factor (now (pressures .entry)))) s r ⌝ }
+pub fn set_wind(s: State, direction: u32, ice: u32, factor: u32, pressures: &[u16]) -> Step
+    ensures { λ r. ⌜ Steps (call.wind (windAsked direction ice factor (now (pressures .entry)))) s r ⌝ }
 {
     if !is_whole(s) {
         return refused(s, Refusal::NoTower);
@@ -177,12 +178,9 @@ pub fn set_wind(s: State, direction: u32, ice: u32, factor: u32, pressures: &[u1
         factor,
         pressures: kept,
     };
-    let state = State {
-        standing: true,
-        tower,
-        windy: true,
-        wind,
-    };
+    let mut state = s;
+    state.windy = true;
+    state.wind = wind;
     let answer = Answer::Accepted;
-    Turn { state, answer }
+    Step { state, answer }
 }

@@ -8,7 +8,7 @@ pub mod answers;
 pub mod changes;
 pub mod whole;
 
-// A tower where `standing`, and a wind on it where `windy`. A value that no list of calls makes counts as no tower.
+// A tower where `standing`, and a wind on it where `windy`. A value whose counts or fields are not fit for a report counts as no tower.
 pub struct State {
     pub standing: bool,
     pub tower: Tower,
@@ -17,13 +17,13 @@ pub struct State {
 }
 
 // The state after a call, and its answer.
-pub struct Turn {
+pub struct Step {
     pub state: State,
     pub answer: Answer,
 }
 
 // The first `held` of the items.
-pub struct HeldItems {
+pub(crate) struct HeldItems {
     pub held: usize,
     pub items: [Item; 64],
 }

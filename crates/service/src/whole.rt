@@ -4,7 +4,7 @@ ghost use Rattle.model.specs.declared.Answer.the-variants as answer;
 ghost use Rattle.model.specs.Machine.{no-tower};
 ghost use Rattle.service.specs.Held.{whole, stateOf};
 use crate::State;
-use crate::Turn;
+use crate::Step;
 use areas::section::thickness;
 use model::Answer;
 use model::Refusal;
@@ -35,7 +35,7 @@ pub fn fresh() -> State
     }
 }
 
-// Whether the state holds a tower that a list of calls may have left: counts within the arrays, fields in their ranges, A_S at most A_u.
+// Whether the state holds a tower whose report can be worked out: counts within the arrays, sizes and the wind in their ranges, A_S at most A_u.
 pub fn is_whole(s: State) -> bool
     ensures { λ r. ⌜ r ≡ whole s ⌝ }
 {
@@ -57,9 +57,9 @@ pub fn is_whole(s: State) -> bool
 }
 
 // A call that is turned down leaves the state.
-pub(crate) fn refused(s: State, e: Refusal) -> Turn
+pub(crate) fn refused(s: State, e: Refusal) -> Step
     ensures { λ r. ⌜ (r .state ≡ s) × (r .answer ≡ answer.Refused e) ⌝ }
 {
     let answer = Answer::Refused(e);
-    Turn { state: s, answer }
+    Step { state: s, answer }
 }

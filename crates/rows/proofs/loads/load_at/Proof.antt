@@ -11,7 +11,7 @@ thickness-requires c κs = search needs
 item-sum-requires : tie.Need-item-sum-requires
 item-sum-requires c κs =
     let e = c .thickness .ensures in
-    rw e (omega arith, c .before .pre .1 .1, c .before .pre .1 .2)
+    rw e (omega arith, search needs, search needs)
 
 mul-q : tie.Need-mul-q
 mul-q c = search needs

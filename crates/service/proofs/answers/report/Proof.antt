@@ -9,7 +9,7 @@ use Rattle.model.proofs.Lists.{length-mapped}
 use Rattle.exact.proofs.Bools.{passed, failed}
 use Rattle.service.specs.Held.{whole}
 use Rattle.service.proofs.Facts.{not-held, held-facts}
-use Rattle.service.proofs.Turns.{refusal-of}
+use Rattle.service.proofs.WaysOut.{refusal-of}
 use Rattle.service.proofs.Answered.{windy-fits, report-refused, report-calm, report-short, report-done}
 use borrow.Author.Needs.{needs}
 use Rattle.service.proofs.answers.report.Statement.{statement}

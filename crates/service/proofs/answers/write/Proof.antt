@@ -3,7 +3,7 @@ use Rattle.model.specs.declared.Refusal.the-variants as refusal
 use Rattle.model.specs.Calls.{write}
 use Rattle.exact.proofs.Bools.{passed, failed}
 use Rattle.service.proofs.Facts.{not-held}
-use Rattle.service.proofs.Turns.{refusal-of}
+use Rattle.service.proofs.WaysOut.{refusal-of}
 use Rattle.service.proofs.Answered.{write-refused, write-done}
 use borrow.Author.Needs.{needs}
 use Rattle.service.proofs.answers.write.Statement.{statement}

@@ -3,7 +3,7 @@ use mathlib.Core.Bool.{true}
 use native.Mathlib.Omega.{arith}
 use Rattle.model.specs.Calls.{bits, erect}
 use Rattle.model.specs.Lists.{allOf}
-use Rattle.service.proofs.Turns.{turned-down}
+use Rattle.service.proofs.WaysOut.{turned-down}
 use Rattle.service.proofs.Erects.{all-bytes, file-refused, file-accepted}
 use borrow.Author.Needs.{needs}
 use Rattle.service.proofs.changes.erect.Statement.{statement}

@@ -10,7 +10,7 @@ use Rattle.exact.proofs.Bools.{passed, failed}
 use Rattle.model.proofs.Lists.{length-mapped}
 use Rattle.service.specs.Held.{whole}
 use Rattle.service.proofs.Facts.{not-held, held-facts, machineTower}
-use Rattle.service.proofs.Turns.{turned-down, refusal-of, hang-full, hang-again, hang-nowhere, hang-range, hang-done}
+use Rattle.service.proofs.WaysOut.{turned-down, refusal-of, hang-full, hang-again, hang-nowhere, hang-range, hang-done}
 use borrow.Author.Needs.{needs}
 use Rattle.service.proofs.changes.hang.Statement.{statement}
 use Rattle.service.proofs.changes.hang.Tie as tie

@@ -18,7 +18,7 @@ use Rattle.exact.proofs.Bools.{passed, failed, and-split, and-rest}
 use Rattle.service.specs.Held.{whole}
 use Rattle.service.specs.Promises.{windAsked}
 use Rattle.service.proofs.Facts.{not-held, held-facts}
-use Rattle.service.proofs.Turns.{turned-down, refusal-of}
+use Rattle.service.proofs.WaysOut.{turned-down, refusal-of}
 use Rattle.service.proofs.Winds.{wind-direction, wind-ice, wind-factor, wind-count, wind-pressure, wind-solid, wind-done}
 use borrow.Author.Needs.{needs}
 use Rattle.service.proofs.changes.set_wind.Statement.{statement}

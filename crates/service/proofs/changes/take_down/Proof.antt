@@ -6,7 +6,7 @@ use Rattle.model.specs.Calls.{takeDown}
 use Rattle.exact.proofs.Bools.{passed, failed}
 use Rattle.service.specs.Held.{whole}
 use Rattle.service.proofs.Facts.{not-held, held-facts}
-use Rattle.service.proofs.Turns.{turned-down, refusal-of, down-none, down-done}
+use Rattle.service.proofs.WaysOut.{turned-down, refusal-of, down-none, down-done}
 use borrow.Author.Needs.{needs}
 use Rattle.service.proofs.changes.take_down.Statement.{statement}
 use Rattle.service.proofs.changes.take_down.Tie as tie

@@ -20,14 +20,14 @@ use Rattle.model.proofs.Refused.{refused-state}
 use Rattle.model.proofs.Lists.{all-grow, all-kept}
 use Rattle.file_fields.proofs.Loops.{take-next}
 use Rattle.service.specs.declared.State as stored
-use Rattle.service.specs.declared.Turn.{Turn}
+use Rattle.service.specs.declared.Step.{Step}
 use Rattle.service.specs.Held.{whole, stateOf}
-use Rattle.service.specs.Promises.{Turned}
+use Rattle.service.specs.Promises.{Steps}
 use Rattle.service.proofs.Facts.{is-held, held-facts, machineTower, machineWind, withHeld, state-items, section-count, item-count}
 
 -- a call that is turned down
-pub turned-down : (c : Call) (s : stored.State) (e : Refusal) {r : Turn} → (r .state ≡ s) × (r .answer ≡ answer.Refused e)
-    → refusalOf (stateOf s) c ≡ refusalNumber e → Turned c s r
+pub turned-down : (c : Call) (s : stored.State) (e : Refusal) {r : Step} → (r .state ≡ s) × (r .answer ≡ answer.Refused e)
+    → refusalOf (stateOf s) c ≡ refusalNumber e → Steps c s r
 turned-down c s e (f, g) h =
     let p : _ = refusal-positive e in
     record {
@@ -38,7 +38,7 @@ turned-down c s e (f, g) h =
 
 -- a call that is accepted
 pub accepted : (c : Call) (s next : stored.State) → refusalOf (stateOf s) c ≡ 0 → stateOf next ≡ step (stateOf s) c
-    → Turned c s (record { state = next; answer = answer.Accepted })
+    → Steps c s (record { state = next; answer = answer.Accepted })
 accepted c s next h e = record { state = e; answer = sym h; untouched = λ z. absurd (z h) }
 
 -- the refusal of a state that is known
@@ -82,7 +82,7 @@ module _ (s : stored.State) (it : Item) (w : whole s ≡ true) (items : length (
     abbrev hungState : stored.State
     hungState = withHeld s (s .tower .held + 1) (set (s .tower .items) (s .tower .held) it)
 
-    pub hang-done : it .section < s .tower .count → fieldsInRange it ≡ true → Turned (hang it) s (record { state = hungState; answer = answer.Accepted })
+    pub hang-done : it .section < s .tower .count → fieldsInRange it ≡ true → Steps (hang it) s (record { state = hungState; answer = answer.Accepted })
     hang-done k e =
         let r : hangRefusal (standing (machineTower s) (machineWind s)) it ≡ 0 = unmet 9 (room h) (unmet 10 new (unmet 11 (there k) (unmet 12 (ap not e) refl))) in
         let l : take (s .tower .held + 1) (set (s .tower .items) (s .tower .held) it) ≡ machineTower s .items ++ (it ∷ []) =
@@ -100,7 +100,7 @@ module _ (s : stored.State) (number : ℕ) (w : whole s ≡ true) where
 
   pub down-done : (n : ℕ) (items : List Item) → numbered number (machineTower s .items) ≡ true → n ≤ 64
       → take n items ≡ without number (machineTower s .items)
-      → Turned (takeDown number) s (record { state = withHeld s n items; answer = answer.Accepted })
+      → Steps (takeDown number) s (record { state = withHeld s n items; answer = answer.Accepted })
   down-done n items e h l =
       let r : takeDownRefusal (standing (machineTower s) (machineWind s)) number ≡ 0 = unmet 14 (ap not e) refl in
       let f : allOf fieldsInRange (take n items) ≡ true =
