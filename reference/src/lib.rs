@@ -7,6 +7,7 @@
 //! least whole number of newtons that is not below the exact force.
 
 pub mod areas;
+pub mod call_cases;
 pub mod cases;
 pub mod draw;
 pub mod expected;

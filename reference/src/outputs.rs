@@ -1,6 +1,6 @@
 //! The table of expected outputs, one entry per program crate.
 
-use crate::{cases, file_cases};
+use crate::{call_cases, cases, file_cases};
 
 /// One file of a program's folder.
 #[derive(Clone, Debug, PartialEq, Eq)]
@@ -29,5 +29,9 @@ pub const GENERATORS: &[Generator] = &[
     Generator {
         program: "file_cases",
         files: file_cases::files,
+    },
+    Generator {
+        program: "call_cases",
+        files: call_cases::files,
     },
 ];

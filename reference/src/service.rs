@@ -92,7 +92,7 @@ impl Service {
     }
 
     /// A section over its allowance, or none. Document 01 leaves open which of
-    /// several; here it is the lowest. Refusals 1, 21.
+    /// several; here it is the topmost. Refusals 1, 21.
     pub fn check(&self) -> Result<Option<u8>, Refusal> {
         let (tower, rows) = self.rows()?;
         let mut pairs = tower.sections.iter().zip(&rows);

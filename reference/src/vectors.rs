@@ -1,7 +1,7 @@
 //! Cases on which the definitions of document 01 and this version have to
 //! agree: towers under a wind, tower files, lists of calls, and host calls.
 
-mod damage;
+pub(crate) mod damage;
 mod hosts;
 mod lists;
 mod table;
@@ -176,7 +176,7 @@ fn count(refusals: impl Iterator<Item = u32>) -> Counts {
 }
 
 /// The number of the refusal, or 0.
-fn number<T>(answer: Result<T, Refusal>) -> u32 {
+pub(crate) fn number<T>(answer: Result<T, Refusal>) -> u32 {
     answer.map_or_else(Refusal::number, |_| 0)
 }
 
@@ -270,7 +270,8 @@ fn under(tower: &Tower, wind: &Wind) -> Service {
     service
 }
 
-fn set_wind(service: &mut Service, wind: &Wind) -> Result<(), Refusal> {
+/// Makes the call with the numbers of this wind.
+pub(crate) fn set_wind(service: &mut Service, wind: &Wind) -> Result<(), Refusal> {
     service.wind(
         wind.direction,
         wind.ice_class,

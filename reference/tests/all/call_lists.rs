@@ -112,7 +112,7 @@ fn a_long_list_of_calls_equals_a_new_tower() {
 }
 
 #[test]
-fn check_answers_the_lowest_section_that_is_over() {
+fn check_answers_the_topmost_section_that_is_over() {
     let mut random = Random(0x5eed_0007);
     let (mut some, mut none) = (0, 0);
     for _ in 0..500 {

@@ -1,6 +1,8 @@
 //! All tests of the reference version.
 
 mod arithmetic;
+mod call_cases;
+mod call_lines;
 mod call_lists;
 mod call_refusals;
 mod cases;

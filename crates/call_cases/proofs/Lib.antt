@@ -1,0 +1,4 @@
+pub mod Mixing
+pub mod Typed
+pub mod Asking
+pub mod Stepping

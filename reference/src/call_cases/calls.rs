@@ -1,0 +1,119 @@
+//! Single calls, most of which suit a tower.
+
+use super::damage::damaged_file;
+use super::towers::{self, Size};
+use super::wrong::{MOST_BYTES, MOST_NUMBERS};
+use crate::draw::{self, Random};
+use crate::file;
+use crate::report::ROW;
+use crate::tower::{Item, Tower, Wind};
+use crate::units::Length;
+use crate::vectors::{damage::damage_item, Call};
+
+/// Any call, for this tower.
+pub fn any_call(random: &mut Random, tower: &Tower, size: Size) -> Call {
+    match random.within(0, 99) {
+        0..=2 => erect(random, size),
+        3..=13 => Call::Erect(damaged_file(random)),
+        14..=33 => Call::Hang(item(random, tower)),
+        34..=45 => Call::TakeDown(item_number(random, tower)),
+        46..=63 => Call::Wind(any_wind(random, tower)),
+        64..=81 => report(random, tower),
+        82..=92 => Call::Check,
+        _ => write(random, tower),
+    }
+}
+
+/// A whole file. A long one seldom stands behind a list's start, and the largest
+/// never.
+fn erect(random: &mut Random, size: Size) -> Call {
+    let size = match size {
+        Size::Tall | Size::Crowded if random.chance(25) => size,
+        _ => Size::Small,
+    };
+    Call::Erect(file::write(&towers::tower(random, size).0))
+}
+
+/// Lends as many numbers as are needed, or some more or fewer.
+fn report(random: &mut Random, tower: &Tower) -> Call {
+    Call::Report(room(random, ROW * tower.sections.len(), MOST_NUMBERS))
+}
+
+/// Lends as many bytes as are needed, or some more or fewer.
+fn write(random: &mut Random, tower: &Tower) -> Call {
+    Call::Write(room(random, file::write(tower).len(), MOST_BYTES))
+}
+
+fn room(random: &mut Random, needed: usize, most: usize) -> usize {
+    let more = needed + random.within(1, 20) as usize;
+    let fewer = random.within(0, needed as u32 - 1) as usize;
+    let rooms = [needed, needed, needed, more, more, needed - 1, fewer, most];
+    random.pick(&rooms).min(most)
+}
+
+/// A number that is held, or any.
+fn item_number(random: &mut Random, tower: &Tower) -> u16 {
+    if tower.items.is_empty() || random.chance(30) {
+        let any = random.within(0, 200) as u16;
+        random.pick(&[any, any, any, 65_535])
+    } else {
+        random.pick(&tower.items).number
+    }
+}
+
+/// An item, most often a new one; some have a wrong section or field, and some
+/// two faults.
+fn item(random: &mut Random, tower: &Tower) -> Item {
+    let new = random.within(0, u16::MAX.into()) as u16;
+    let number = if random.chance(12) {
+        item_number(random, tower)
+    } else {
+        new
+    };
+    let sections = tower.sections.len();
+    let mut item = draw::item(random, number, sections);
+    if random.chance(8) {
+        item.section = random.pick(&[sections as u8, 32, 255]);
+    }
+    if random.chance(14) {
+        damage_item(random, &mut item, sections);
+    }
+    // beyond the two bytes of a file's field
+    let wide = Length(random.pick(&[65_536, 65_537, 1 << 31, u32::MAX]));
+    match random.within(0, 39) {
+        0 => item.width = wide,
+        1 => item.length = wide,
+        _ => {}
+    }
+    item
+}
+
+/// A wind, of which some have a wrong number or several.
+fn any_wind(random: &mut Random, tower: &Tower) -> Wind {
+    let mut wind = towers::wind(random, tower);
+    if random.chance(50) {
+        return wind;
+    }
+    if random.chance(20) {
+        wind.direction = random.pick(&[1, 5, 23, 24, 25, 256, u32::MAX]);
+    }
+    if random.chance(20) {
+        wind.ice_class = random.pick(&[6, 7, 256, u32::MAX]);
+    }
+    if random.chance(20) {
+        wind.structure_factor = random.pick(&[0, 499, 2_001, 66_536, u32::MAX]);
+    }
+    if random.chance(20) {
+        let count = random.within(0, 40) as usize;
+        wind.pressures.resize(count, 1_000);
+    }
+    if random.chance(40) {
+        if let Some(last) = wind.pressures.last_mut() {
+            *last = random.pick(&[5_000, 5_001, 5_001, u16::MAX]);
+        }
+    }
+    if random.chance(40) && wind.ice_class <= 5 {
+        wind.ice_class = random.within(3, 5);
+    }
+    wind
+}
