@@ -1,4 +1,3 @@
-pub mod Mixing
 pub mod Typed
 pub mod Asking
 pub mod Stepping

@@ -1,3 +1,2 @@
-pub mod Digest
 pub mod Asked
 pub mod LineSteps

@@ -16,7 +16,7 @@ use Rattle.service.specs.Held.{stateOf}
 use Rattle.call_cases.specs.declared.Reply.{Reply}
 use Rattle.call_cases.specs.declared.Reply.the-variants as reply
 use Rattle.call_cases.specs.declared.LineStep.{LineStep}
-use Rattle.call_cases.specs.Digest.{start, digest}
+use Rattle.lines.specs.Digest.{start, digest}
 use Rattle.call_cases.specs.Asked.{Asked, fresh, called, nothing}
 
 -- whether all numbers have at most so many bits, and if so they stand at the start of out

@@ -16,7 +16,6 @@
 mod answers;
 mod arguments;
 mod changes;
-mod digest;
 mod replies;
 
 ghost use Prim.Native.Nat.{_≤_};

@@ -1,4 +1,4 @@
--- Digests of numbers: FNV-1a over words of 64 bits.
+-- The values of a tower that its digest is of.
 use Prim.Native.Nat.{ℕ, _*_, _%_, _^_}
 use mathlib.Core.List.{List, [], _∷_, _++_}
 use lib.Bits.{bitXor}
@@ -9,17 +9,6 @@ use Rattle.model.specs.Lists.{joined}
 use Rattle.model.specs.Tower.{Section, Tower}
 use Rattle.model.specs.Areas.{sizeOf}
 use Rattle.model.specs.Bytes.{kindOf, legsNumber}
-
-abbrev pub start : ℕ
-start = 14_695_981_039_346_656_037
-
-unfoldable pub mixed : ℕ → ℕ → ℕ
-mixed d v = bitXor d v * 1_099_511_628_211 % 2 ^ 64
-
--- the digest with further values
-unfoldable pub digest : ℕ → List ℕ → ℕ
-digest d [] = d
-digest d (v ∷ l) = digest (mixed d v) l
 
 -- a tower's values
 abbrev pub groupValues : Group → List ℕ

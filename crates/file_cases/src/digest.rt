@@ -1,4 +1,4 @@
-// Digests of bytes and of towers.
+// Digests of towers.
 ghost use Prim.Native.Nat.{_*_, _%_, _^_, _≤_, min};
 ghost use mathlib.Core.Path.{_≡_};
 ghost use mathlib.Core.List.{[], _∷_, map};
@@ -7,7 +7,10 @@ ghost use Rattle.model.specs.Lists.{joined};
 ghost use Rattle.model.specs.Tower.{sectionOf, towerOf};
 ghost use Rattle.model.specs.Areas.{sizeOf};
 ghost use Rattle.model.specs.Bytes.{kindOf};
-ghost use Rattle.file_cases.specs.Digest.{start, mixed, digest, groupValues, sectionValues, itemValues, towerValues};
+ghost use Rattle.lines.specs.Digest.{start, digest};
+ghost use Rattle.file_cases.specs.Digest.{groupValues, sectionValues, itemValues, towerValues};
+use lines::digest::START;
+use lines::digest::mix;
 use model::Group;
 use model::Item;
 use model::Member;
@@ -15,35 +18,7 @@ use model::Section;
 use model::Tower;
 use model::numbers::legs_number;
 
-const START: u64 = 14_695_981_039_346_656_037;
-
-// The factor is 2^40 + 435.
-fn times_prime(d: u64) -> u64
-    ensures { λ r. ⌜ r ≡ d * 1_099_511_628_211 % 2 ^ 64 ⌝ }
-{
-    let low = (d % 4_294_967_296) * 435;
-    let high = ((d / 4_294_967_296) * 435) << 32;
-    let sum = std::num::wrapping_add_u64(low, high);
-    std::num::wrapping_add_u64(sum, d << 40)
-}
-
-fn mix(d: u64, v: u64) -> u64
-    ensures { λ r. ⌜ r ≡ mixed d v ⌝ }
-{
-    times_prime(d ^ v)
-}
-
-pub fn bytes_digest(s: &[u8]) -> u64
-    ensures { λ r. ⌜ r ≡ digest start (now (s .entry)) ⌝ }
-{
-    let mut d = START;
-    for i in 0usize..s.len() {
-        d = mix(d, s[i] as u64);
-    }
-    d
-}
-
-// Each function from here on mixes something into d.
+// Each function mixes something into d.
 fn mix_member(d: u64, m: Member) -> u64
     ensures { λ r. ⌜ r ≡ digest d (kindOf m ∷ sizeOf m .0 ∷ []) ⌝ }
 {

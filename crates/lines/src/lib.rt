@@ -1,4 +1,5 @@
-// A line of input as numbers, and a line of output as text.
+// A line of input as numbers, a line of output as text, and digests of bytes and numbers.
+pub mod digest;
 pub mod numbers;
 pub mod text;
 

@@ -5,7 +5,8 @@ use lib.ListN.{length, take}
 use Rattle.model.specs.Lists.{joined}
 use Rattle.model.proofs.Lists.{length-mapped}
 use borrow.Author.Needs.{needs}
-use Rattle.file_cases.specs.Digest.{digest, groupValues}
+use Rattle.lines.specs.Digest.{digest}
+use Rattle.file_cases.specs.Digest.{groupValues}
 use Rattle.file_cases.proofs.Mixing.{joined-none, joined-more}
 use Rattle.file_cases.proofs.digest.mix_groups.Statement.{statement}
 use Rattle.file_cases.proofs.digest.mix_groups.Tie as tie

@@ -1,5 +1,5 @@
 use borrow.Author.Needs.{needs}
-use Rattle.file_cases.specs.Digest.{digest}
+use Rattle.lines.specs.Digest.{digest}
 use Rattle.file_cases.proofs.digest.mix_member.Statement.{statement}
 use Rattle.file_cases.proofs.digest.mix_member.Tie as tie
 

@@ -2,7 +2,7 @@ use mathlib.Core.Path.{_≡_}
 use lib.ListN.{length}
 use Rattle.model.proofs.Lists.{length-mapped}
 use borrow.Author.Needs.{needs}
-use Rattle.file_cases.specs.Digest.{digest}
+use Rattle.lines.specs.Digest.{digest}
 use Rattle.file_cases.proofs.Mixing.{LeastTaken, least-taken}
 use Rattle.file_cases.proofs.digest.mix_section.Statement.{statement}
 use Rattle.file_cases.proofs.digest.mix_section.Tie as tie

@@ -8,7 +8,8 @@ use Rattle.model.specs.Lists.{joined}
 use Rattle.model.specs.Tower.{sectionOf}
 use Rattle.model.proofs.Lists.{length-mapped}
 use borrow.Author.Needs.{needs}
-use Rattle.file_cases.specs.Digest.{digest, sectionValues}
+use Rattle.lines.specs.Digest.{digest}
+use Rattle.file_cases.specs.Digest.{sectionValues}
 use Rattle.file_cases.proofs.Mixing.{joined-none, joined-more, joined-map}
 use Rattle.file_cases.proofs.digest.mix_sections.Statement.{statement}
 use Rattle.file_cases.proofs.digest.mix_sections.Tie as tie

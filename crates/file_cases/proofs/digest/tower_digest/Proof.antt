@@ -4,8 +4,9 @@ use lib.ListN.{length, take, length-map}
 use Rattle.model.specs.Tower.{sectionOf}
 use Rattle.model.proofs.Lists.{length-mapped}
 use borrow.Author.Needs.{needs}
-use Rattle.file_cases.specs.Digest.{digest}
-use Rattle.file_cases.proofs.Mixing.{LeastTaken, least-taken, digest-append}
+use Rattle.lines.specs.Digest.{digest}
+use Rattle.lines.proofs.Mixing.{digest-append}
+use Rattle.file_cases.proofs.Mixing.{LeastTaken, least-taken}
 use Rattle.file_cases.proofs.digest.tower_digest.Statement.{statement}
 use Rattle.file_cases.proofs.digest.tower_digest.Tie as tie
 

@@ -7,7 +7,7 @@ use native.Mathlib.Numerals.{add-one}
 use native.Mathlib.Omega.{arith}
 use lib.ListN.{length, getD, take}
 use lib.Seq.{take-suc}
-use Rattle.call_cases.specs.Digest.{mixed, digest}
+use Rattle.lines.specs.Digest.{mixed, digest}
 
 -- the product in three parts, each modulo 2^64
 pub in-parts : (d s r : ℕ) → s ≡ (d % 4_294_967_296 * 435 + d / 4_294_967_296 * 435 * 2 ^ 32 % 2 ^ 64) % 2 ^ 64
@@ -21,7 +21,7 @@ pub digest-none : (d : ℕ) → d ≡ digest d []
 unfolding digest
 digest-none d = refl
 
-digest-append : (d : ℕ) (xs ys : List ℕ) → digest d (xs ++ ys) ≡ digest (digest d xs) ys
+pub digest-append : (d : ℕ) (xs ys : List ℕ) → digest d (xs ++ ys) ≡ digest (digest d xs) ys
 unfolding digest
 digest-append d [] ys = refl
 digest-append d (x ∷ xs) ys = digest-append (mixed d x) xs ys

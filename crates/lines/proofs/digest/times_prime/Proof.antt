@@ -1,7 +1,7 @@
 use borrow.Author.Needs.{needs}
-use Rattle.call_cases.proofs.Mixing.{in-parts}
-use Rattle.call_cases.proofs.digest.times_prime.Statement.{statement}
-use Rattle.call_cases.proofs.digest.times_prime.Tie as tie
+use Rattle.lines.proofs.Mixing.{in-parts}
+use Rattle.lines.proofs.digest.times_prime.Statement.{statement}
+use Rattle.lines.proofs.digest.times_prime.Tie as tie
 
 mul-low : tie.Need-mul-low
 mul-low c = search needs

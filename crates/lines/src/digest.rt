@@ -1,9 +1,10 @@
-// Digests of what was lent.
+// Digests of bytes and numbers.
 ghost use Prim.Native.Nat.{_*_, _%_, _^_};
 ghost use mathlib.Core.Path.{_≡_};
-ghost use Rattle.call_cases.specs.Digest.{start, mixed, digest};
+ghost use Rattle.lines.specs.Digest.{start, mixed, digest};
 
-const START: u64 = 14_695_981_039_346_656_037;
+// Of nothing.
+pub const START: u64 = 14_695_981_039_346_656_037;
 
 // The factor is 2^40 + 435.
 fn times_prime(d: u64) -> u64
@@ -15,7 +16,8 @@ fn times_prime(d: u64) -> u64
     std::num::wrapping_add_u64(sum, d << 40)
 }
 
-fn mix(d: u64, v: u64) -> u64
+// The digest d with one number more.
+pub fn mix(d: u64, v: u64) -> u64
     ensures { λ r. ⌜ r ≡ mixed d v ⌝ }
 {
     times_prime(d ^ v)

@@ -1,7 +1,7 @@
 use borrow.Author.Needs.{needs}
-use Rattle.call_cases.specs.Digest.{mixed}
-use Rattle.call_cases.proofs.digest.mix.Statement.{statement}
-use Rattle.call_cases.proofs.digest.mix.Tie as tie
+use Rattle.lines.specs.Digest.{mixed}
+use Rattle.lines.proofs.digest.mix.Statement.{statement}
+use Rattle.lines.proofs.digest.mix.Tie as tie
 
 times-prime-requires : tie.Need-times-prime-requires
 times-prime-requires c κs = search needs
