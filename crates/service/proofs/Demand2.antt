@@ -76,14 +76,14 @@ module _ {s s′ : stored.State} {lent : List ℕ} {o : Outcome} (l : Link s (re
       }
 
 -- a file that erect accepts has a tower
-record Held (x : Parsed Tower) : Type 0 where
+record FileTower (x : Parsed Tower) : Type 0 where
   tower : Tower
   rest : List ℕ
   is : x ≡ got tower rest
 
-file-held : (x : Parsed Tower) → Numbered x → fileRefusal x ≡ 0 → Held x
-file-held (got t rest) n h = record { tower = t; rest = rest; is = refl }
-file-held (refused k) (number low high) h = absurd (omega arith)
+file-tower : (x : Parsed Tower) → Numbered x → fileRefusal x ≡ 0 → FileTower x
+file-tower (got t rest) n h = record { tower = t; rest = rest; is = refl }
+file-tower (refused k) (number low high) h = absurd (omega arith)
 
 says-written : {m : State} {lent : List ℕ} {a : WriteAnswer} → Says m (write lent) (written a) → WriteSays m (length lent) a
 says-written (by-write h) = h
@@ -120,7 +120,7 @@ pub demand-2-same-bytes : {s s₁ s₂ : stored.State} {file lent : List ℕ} {o
     → (p .reply ≡ written (write-answer.Written (length file))) × (p .lent ≡ file ++ drop (length file) lent)
 unfolding erectRefusal erectStep
 demand-2-same-bytes {s = s} {file = file} {lent = lent} {p = p} typed l a k room =
-    let g : Held (readFile file) = file-held (readFile file) (file-numbered file) (sym (says-number (link-says l)) ∙ a) in
+    let g : FileTower (readFile file) = file-tower (readFile file) (file-numbered file) (sym (says-number (link-says l)) ∙ a) in
     let e : _ = link-state l ∙ ap (erected (stateOf s)) (g .is) in
     subst
     (λ (x : List ℕ). length x ≤ length lent → (p .reply ≡ written (write-answer.Written (length x))) × (p .lent ≡ x ++ drop (length x) lent))

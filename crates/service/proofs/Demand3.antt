@@ -45,14 +45,14 @@ pub record SameNewly (t : Tower) (w : Wind) (room : ℕ) (rows : List ℕ) : Typ
       → (allOf isAccepted os ≡ true) × (take (6 * length (t .sections)) (lastLent os) ≡ take (6 * length (t .sections)) rows)
 
 -- an accepted report: it is that of a valid tower under a wind that it takes, its six numbers a section are document 01's, and the rest of the slice stays
-pub record Shown (m : State) (before after : List ℕ) : Type 0 where
+pub record AcceptedReport (m : State) (before after : List ℕ) : Type 0 where
   pub tower : Tower
   pub wind : Wind
   pub state : m ≡ standing tower (some wind)
   pub valid : ValidWind tower wind
   pub rows : after ≡ rowsOf tower wind ++ drop (6 * length (tower .sections)) before
-  pub excess : Excess 2 tower wind after
-  pub closer : Excess 1 tower wind after
+  pub excess-2 : Excess 2 tower wind after
+  pub excess-1 : Excess 1 tower wind after
   pub newly : SameNewly tower wind (length before) after
 
 -- an entry, beside the machine's state m
@@ -66,7 +66,7 @@ pub record Entry (m : State) (c : Call) (o : Outcome) : Type 0 where
   -- a refused call changes nothing
   pub refused : (refusalOf m c ≡ 0 → ⊥) → (step m c ≡ m) × (o .lent ≡ lentBefore c)
   -- a report that is accepted
-  pub shown : (before : List ℕ) → c ≡ report before → replyNumber (o .reply) ≡ 0 → Shown m before (o .lent)
+  pub accepted-report : (before : List ℕ) → c ≡ report before → replyNumber (o .reply) ≡ 0 → AcceptedReport m before (o .lent)
 
 -- every entry of a list, the machine being given the same list
 pub data Each : State → List Call → List Outcome → Type 0 where
@@ -114,10 +114,10 @@ module _ (t : Tower) (w : Wind) (before after : List ℕ) (e : after ≡ rowsOf 
             );
       }
 
-shown-in : (m : State) (before after : List ℕ) → ValidState m → reportRefusal m (length before) ≡ 0 → after ≡ reportOut m before → Shown m before after
-shown-in no-tower before after v h e = absurd (omega arith)
-shown-in (standing t none) before after v h e = absurd (omega arith)
-shown-in (standing t (some w)) before after (windy v) h e =
+report-in : (m : State) (before after : List ℕ) → ValidState m → reportRefusal m (length before) ≡ 0 → after ≡ reportOut m before → AcceptedReport m before after
+report-in no-tower before after v h e = absurd (omega arith)
+report-in (standing t none) before after v h e = absurd (omega arith)
+report-in (standing t (some w)) before after (windy v) h e =
     let short : _ = refuse-none (ltb (length before) (6 * length (t .sections))) 22 0 (omega arith) h in
     let room : 6 * length (t .sections) ≤ length before = ltb-false _ _ (short .0) in
     let r : after ≡ rowsOf t w ++ drop (6 * length (t .sections)) before = e ∙ report-rows t w before room in
@@ -127,8 +127,8 @@ shown-in (standing t (some w)) before after (windy v) h e =
       state = refl;
       valid = v;
       rows = r;
-      excess = excess-of t w before after r 2 (omega arith) v;
-      closer = excess-of t w before after r 1 (omega arith) v;
+      excess-2 = excess-of t w before after r 2 (omega arith) v;
+      excess-1 = excess-of t w before after r 1 (omega arith) v;
       newly = same-newly t w before after r v room;
     }
 
@@ -141,8 +141,8 @@ entry {c = c} {o = o} m e v l =
       says = says;
       lent = lent;
       refused = λ h. (refused-state m c h, lent ∙ refused-lent m c h);
-      shown = λ before q a.
-          shown-in m before (o .lent) v
+      accepted-report = λ before q a.
+          report-in m before (o .lent) v
           (subst (λ (x : Call). refusalOf m x ≡ 0) q (sym (says-number says) ∙ a))
           (lent ∙ ap (lentAfter m) q);
     }
