@@ -5,6 +5,7 @@ mod call_cases;
 mod call_lines;
 mod call_lists;
 mod call_refusals;
+mod call_samples;
 mod cases;
 mod common;
 mod digests;
