@@ -9,6 +9,7 @@
 pub mod areas;
 pub mod call_cases;
 pub mod cases;
+pub mod description;
 pub mod draw;
 pub mod expected;
 pub mod file;
