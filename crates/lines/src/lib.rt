@@ -1,5 +1,6 @@
-// A line of input as numbers, a line of output as text, and digests of bytes and numbers.
+// A line of input as numbers or bytes, a line of output as text, and digests of bytes and numbers.
 pub mod digest;
+pub mod hex;
 pub mod numbers;
 pub mod text;
 
@@ -15,5 +16,12 @@ pub enum Count {
     Of(usize),
     Bad,
     Large,
+    Many,
+}
+
+// How many bytes a text in hexadecimal has, or what is wrong with it: it is none, or they are too many.
+pub enum HexCount {
+    Of(usize),
+    Bad,
     Many,
 }
