@@ -23,6 +23,11 @@ decimalBy (suc k) n = cond (ltb n 10) ((48 + n) ∷ []) (decimalBy k (n / 10) ++
 unfoldable pub decimal : ℕ → List ℕ
 decimal n = decimalBy n n
 
+-- numbers, with a space behind each
+unfoldable pub spaced : List ℕ → List ℕ
+spaced [] = []
+spaced (n ∷ ns) = decimal n ++ (32 ∷ spaced ns)
+
 -- the bytes of a text of ASCII characters, from a place on
 abbrev pub asciiFrom : String → ℕ → ℕ → List ℕ
 asciiFrom t i zero = []

@@ -1,0 +1,60 @@
+-- A row that is put number by number, and rows one after the other.
+use Prim.Native.Nat.{ℕ, zero, suc, _+_, _-_, _*_, _≤_, _<_}
+use mathlib.Core.Path.{_≡_, refl, sym}
+use mathlib.Core.List.{List, [], _∷_, _++_, append-assoc, append-nil}
+use native.Mathlib.Omega.{arith}
+use native.Mathlib.Numerals.{add-one}
+use lib.ListN.{length, getD, take, drop}
+use lib.Seq.{take-suc, take-all, drop-drop}
+use Rattle.lines.specs.Text.{Puts, ascii, decimal, spaced}
+use Rattle.lines.proofs.Putting.{puts-none, puts-both}
+use Rattle.replies.specs.ReplyText.{rowText, rowsText}
+
+spaced-append : (ns ms : List ℕ) → spaced (ns ++ ms) ≡ spaced ns ++ spaced ms
+unfolding spaced
+spaced-append [] ms = refl
+spaced-append (n ∷ ns) ms = rw (spaced-append ns ms, append-assoc)
+
+row-of : (ns : List ℕ) (n : ℕ) → rowText (ns ++ (n ∷ [])) ≡ spaced ns ++ (decimal n ++ (10 ∷ []))
+unfolding spaced rowText
+row-of [] n = refl
+row-of (m ∷ []) n = rw append-assoc
+row-of (m ∷ (k ∷ ns)) n = rw (row-of (k ∷ ns) n) (simp append-assoc)
+
+pub row-none : (before : List ℕ) (at : ℕ) → at ≤ length before → Puts (spaced []) before at before at
+unfolding spaced
+row-none = puts-none
+
+module _ (row before : List ℕ) (at : ℕ) where
+  module _ {after last : List ℕ} {p r : ℕ} (i : ℕ) (h : i < length row) (a : Puts (spaced (take i row)) before at after p) where
+    -- a number that is not the last
+    pub row-more : Puts (decimal (getD row i 0) ++ (32 ∷ [])) after p last r → Puts (spaced (take (i + 1) row)) before at last r
+    unfolding spaced
+    row-more b = rw (add-one i, take-suc row i 0 h, spaced-append) (puts-both a b)
+
+    -- the last
+    pub row-last : length row ≤ suc i → Puts (decimal (getD row i 0) ++ (10 ∷ [])) after p last r → Puts (rowText row) before at last r
+    row-last g b =
+        let e : row ≡ take i row ++ (getD row i 0 ∷ []) = rw (take-all _ _ g) at (take-suc row i 0 h) in
+        rw (e, row-of) (puts-both a b)
+
+rows-suc : (i : ℕ) (rows : List ℕ) → rowsText (suc i) rows ≡ rowsText i rows ++ rowText (take 6 (drop (6 * i) rows))
+unfolding rowsText
+rows-suc zero rows = rw append-nil
+rows-suc (suc i) rows =
+    let e : 6 * suc i ≡ 6 + 6 * i = omega arith in
+    rw (rows-suc i (drop 6 rows), drop-drop, e, append-assoc)
+
+module _ (rows before : List ℕ) (at : ℕ) where
+  pub rows-none : at ≤ length before → Puts (rowsText 0 rows) before at before at
+  unfolding rowsText
+  rows-none = puts-none before at
+
+  pub rows-more : {after last : List ℕ} {p r : ℕ} (i : ℕ) → Puts (rowsText i rows) before at after p
+      → Puts (rowText (take 6 (drop (6 * i) rows))) after p last r → Puts (rowsText (i + 1) rows) before at last r
+  rows-more i a b = rw (add-one i, rows-suc) (puts-both a b)
+
+-- how many rows, and then the rows
+pub rows-reply : {before after last : List ℕ} {p r : ℕ} (n : ℕ) (rows : List ℕ) → Puts (ascii "ok " ++ (decimal n ++ ascii "\n")) before 0 after p
+    → Puts (rowsText n rows) after p last r → Puts (ascii "ok " ++ (decimal n ++ (ascii "\n" ++ rowsText n rows))) before 0 last r
+rows-reply n rows a b = simp append-assoc at (puts-both a b)

@@ -1,0 +1,29 @@
+// What a request is answered, and its text.
+use model::Refusal;
+
+mod help;
+pub mod text;
+
+// What is wrong with a line that is no request.
+pub enum Fault {
+    NoRequest,
+    FewWords,
+    ManyWords,
+    NotDecimal,
+    TooLarge,
+    NotHex,
+    LongLine,
+}
+
+// The answer to a request: a call is accepted or turned down; six numbers for each of so many sections; a section over its allowance, or that
+// none is; a file of so many bytes; what the requests are; or what is wrong with the line.
+pub enum Reply {
+    Done,
+    Refused(Refusal),
+    Rows(usize),
+    Over(usize),
+    NoneOver,
+    File(usize),
+    Help,
+    Wrong(Fault),
+}

@@ -1,0 +1,106 @@
+// The text of a reply.
+ghost use Prim.Native.Nat.{_*_, _≤_, _<_};
+ghost use mathlib.Core.List.{_++_};
+ghost use lib.ListN.{length};
+ghost use Rattle.model.specs.Answers.{refusalNumber};
+ghost use Rattle.lines.specs.Text.{Puts, ascii, decimal};
+ghost use Rattle.lines.specs.Hex.{hexText};
+ghost use Rattle.replies.specs.ReplyText.{faultText, rowText, rowsText, replyText, Within};
+use crate::Fault;
+use crate::Reply;
+use crate::help::put_help;
+use lines::hex::put_hex;
+use lines::text::put;
+use lines::text::put_bytes;
+use lines::text::put_number;
+use model::Refusal;
+use model::numbers::refusal_number;
+
+fn put_error(out: &mut [u8], why: &[u8]) -> usize
+    ensures { λ r. ⌜ Puts (ascii "error " ++ (now (why .entry) ++ ascii "\n")) (now (out .entry)) 0 (now (out .exit)) r ⌝ }
+{
+    let at = put_bytes(out, 0, b"error ");
+    let at = put_bytes(out, at, why);
+    put(out, at, b'\n')
+}
+
+fn put_fault(out: &mut [u8], f: Fault) -> usize
+    ensures { λ r. ⌜ Puts (ascii "error " ++ (faultText f ++ ascii "\n")) (now (out .entry)) 0 (now (out .exit)) r ⌝ }
+{
+    match f {
+        Fault::NoRequest => put_error(out, b"unknown request, try help"),
+        Fault::FewWords => put_error(out, b"too few words"),
+        Fault::ManyWords => put_error(out, b"too many words"),
+        Fault::NotDecimal => put_error(out, b"not a decimal number"),
+        Fault::TooLarge => put_error(out, b"number too large"),
+        Fault::NotHex => put_error(out, b"not hexadecimal"),
+        Fault::LongLine => put_error(out, b"line too long"),
+    }
+}
+
+fn put_refused(out: &mut [u8], e: Refusal) -> usize
+    ensures { λ r. ⌜ Puts (ascii "refused " ++ (decimal (refusalNumber e) ++ ascii "\n")) (now (out .entry)) 0 (now (out .exit)) r ⌝ }
+{
+    let at = put_bytes(out, 0, b"refused ");
+    put_number(out, at, refusal_number(e) as u64, b'\n')
+}
+
+fn put_count(out: &mut [u8], n: usize) -> usize
+    ensures { λ r. ⌜ Puts (ascii "ok " ++ (decimal n ++ ascii "\n")) (now (out .entry)) 0 (now (out .exit)) r ⌝ }
+{
+    let at = put_bytes(out, 0, b"ok ");
+    put_number(out, at, n as u64, b'\n')
+}
+
+fn put_row(out: &mut [u8], at: usize, row: &[u64]) -> usize
+    requires { ⌜ (at ≤ length (now out)) × (0 < length (now row)) ⌝ }
+    ensures { λ r. ⌜ Puts (rowText (now (row .entry))) (now (out .entry)) at (now (out .exit)) r ⌝ }
+{
+    let last = row.len() - 1;
+    let mut p = at;
+    for i in 0usize..last {
+        p = put_number(out, p, row[i], b' ');
+    }
+    put_number(out, p, row[last], b'\n')
+}
+
+fn put_rows(out: &mut [u8], at: usize, rows: &[u64], count: usize) -> usize
+    requires { ⌜ (at ≤ length (now out)) × (6 * count ≤ length (now rows)) ⌝ }
+    ensures { λ r. ⌜ Puts (rowsText count (now (rows .entry))) (now (out .entry)) at (now (out .exit)) r ⌝ }
+{
+    let mut p = at;
+    for i in 0usize..count {
+        let start = 6 * i;
+        let end = start + 6;
+        p = put_row(out, p, &rows[start..end]);
+    }
+    p
+}
+
+fn put_file(out: &mut [u8], file: &[u8]) -> usize
+    ensures { λ r. ⌜ Puts (ascii "ok " ++ (hexText (now (file .entry)) ++ ascii "\n")) (now (out .entry)) 0 (now (out .exit)) r ⌝ }
+{
+    let at = put_bytes(out, 0, b"ok ");
+    let at = put_hex(out, at, file);
+    put(out, at, b'\n')
+}
+
+// Puts a reply at the start of out, as far as out reaches, and answers its length.
+pub fn put_reply(out: &mut [u8], r: Reply, rows: &[u64], file: &[u8]) -> usize
+    requires { ⌜ Within (now rows) (now file) r ⌝ }
+    ensures { λ n. ⌜ Puts (replyText (now (rows .entry)) (now (file .entry)) r) (now (out .entry)) 0 (now (out .exit)) n ⌝ }
+{
+    match r {
+        Reply::Done => put_bytes(out, 0, b"ok\n"),
+        Reply::Refused(e) => put_refused(out, e),
+        Reply::Rows(n) => {
+            let at = put_count(out, n);
+            put_rows(out, at, rows, n)
+        }
+        Reply::Over(i) => put_count(out, i),
+        Reply::NoneOver => put_bytes(out, 0, b"ok none\n"),
+        Reply::File(n) => put_file(out, &file[..n]),
+        Reply::Help => put_help(out),
+        Reply::Wrong(f) => put_fault(out, f),
+    }
+}
