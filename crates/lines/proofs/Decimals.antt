@@ -37,7 +37,7 @@ digits-by (suc f) n (suc (suc k)) h w =
     let g : 10 ≤ n = omega arith in
     let d : suc k - 1 ≡ k = omega arith in
     let i : digits 10 (suc k) (n / 10) ≡ decimalBy f (n / 10) =
-      digits-by f (n / 10) (suc k) (omega arith) (omega arith, omega arith, λ z. rw d (omega arith)) in
+    digits-by f (n / 10) (suc k) (omega arith) (omega arith, omega arith, λ z. rw d (omega arith)) in
     rw (le-ltb n 10 g, i, glyph-decimal (n % 10) (omega arith))
 
 pub fewest-decimal : (n k : ℕ) → Fewest 10 1 n k → digits 10 k n ≡ decimal n

@@ -74,6 +74,13 @@ module _ (room : ℕ) (text out : List ℕ) where
                 long = simp length-set (p .long);
                 digits = rw (p .digits, next, ← h, ← l, lt-ltb high 16 (omega arith), lt-ltb low 16 (omega arith));
                 bytes =
-                  rw (p .bytes, next, ← h, ← l, add-one i, take-suc-set out i (high * 16 + low) (omega (arith, p .long)),
-                    append-assoc);
+                    rw (
+                      p .bytes,
+                      next,
+                      ← h,
+                      ← l,
+                      add-one i,
+                      take-suc-set out i (high * 16 + low) (omega (arith, p .long)),
+                      append-assoc,
+                    );
               }

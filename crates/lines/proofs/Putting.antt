@@ -33,10 +33,10 @@ module _ {s t before after last : List ℕ} {at p r : ℕ} where
         low = omega arith;
         high = omega (arith, a .long);
         put = λ g.
-          let l : length (s ++ t) ≡ length s + length t = length-append s t in
-          let x = a .put (omega arith) in
-          let y = b .put (omega (arith, a .long, x .0)) in
-          (omega (arith, x .0, y .0), rw (y .1, x .1, append-assoc));
+            let l : length (s ++ t) ≡ length s + length t = length-append s t in
+            let x = a .put (omega arith) in
+            let y = b .put (omega (arith, a .long, x .0)) in
+            (omega (arith, x .0, y .0), rw (y .1, x .1, append-assoc));
       }
 
 -- one turn of a loop over a text

@@ -6,7 +6,8 @@ use lines::text::put_bytes;
 pub(crate) fn put_help(out: &mut [u8]) -> usize
     ensures { λ r. ⌜ Puts helpText (now (out .entry)) 0 (now (out .exit)) r ⌝ }
 {
-    let text = b"A request is a line: words apart by single spaces, numbers in decimal, bytes in hexadecimal.
+    let text =
+        b"A request is a line: words apart by single spaces, numbers in decimal, bytes in hexadecimal.
   erect HEX         replaces everything by the tower of this file; answers ok
   hang NUMBER SECTION WIDTH LENGTH BARE ICED K
                     hangs an item: section 0 is the top, width and length in mm, bare and iced

@@ -43,10 +43,11 @@ loop-again : tie.Need-loop-again Inv-loop μ-loop
 loop-again c =
     let l = c .before .before in
     let h = l .before .before .before .before .before .before in
-    let t = h .before .before .before in
-    (search needs,
-    hex-more _ _ _ _ _ _ _ _ _ _ _ _ (t .loop-test .taken) (t .before .loop .inv .1) (h .hex-digit .ensures) (l .before .before .before .before .before .put .ensures)
-    (l .before .hex-digit2 .ensures) (l .put2 .ensures))
+    let t = h .before .before .before in (
+      search needs,
+      hex-more _ _ _ _ _ _ _ _ _ _ _ _ (t .loop-test .taken) (t .before .loop .inv .1) (h .hex-digit .ensures) (l .before .before .before .before .before .put .ensures)
+          (l .before .hex-digit2 .ensures) (l .put2 .ensures),
+    )
 
 same-length : tie.Need-same-length Inv-loop μ-loop
 same-length c = search needs

@@ -84,10 +84,11 @@ loop-again : tie.Need-loop-again Inv-loop μ-loop
 loop-again c =
     let v = c .before .before in
     let t = v .before .before .before .before in
-    let e = t .before .before in
-    (search needs,
-    paired-more _ _ _ (e .before .if1 .left) (e .if2 .left) _ _ _ (t .before .loop .inv .1) (t .loop-test .taken) (v .before .before .hex-value .ensures)
-    (v .hex-value2 .ensures) (c .before .if3 .left) (c .if4 .left))
+    let e = t .before .before in (
+      search needs,
+      paired-more _ _ _ (e .before .if1 .left) (e .if2 .left) _ _ _ (t .before .loop .inv .1) (t .loop-test .taken) (v .before .before .hex-value .ensures)
+          (v .hex-value2 .ensures) (c .before .if3 .left) (c .if4 .left),
+    )
 
 same-length-3 : tie.Need-same-length-3 Inv-loop μ-loop
 same-length-3 c = search needs
