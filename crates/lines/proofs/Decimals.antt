@@ -1,10 +1,13 @@
--- A number's fewest digits are its decimal text.
+-- A number's fewest digits are its decimal text; how many they are at most.
 use Prim.Native.Nat.{ℕ, zero, suc, _+_, _-_, _*_, _/_, _%_, _^_, _≤_, _<_}
-use mathlib.Core.Path.{_≡_}
+use mathlib.Core.Path.{_≡_, refl}
+use mathlib.Core.Bool.{Bool, true, false}
 use mathlib.Core.List.{List, [], _∷_, _++_}
 use native.Mathlib.Nat.{pow-suc, one-le-pow}
 use native.Mathlib.Omega.{arith}
-use borrow.Author.Tests.{lt-ltb, le-ltb}
+use lib.Dec.{ltb}
+use lib.ListN.{length, length-append}
+use borrow.Author.Tests.{lt-ltb, le-ltb, ltb-false}
 use Rattle.io.specs.Digits.{glyph, digits, Fewest}
 use Rattle.lines.specs.Text.{Puts, decimalBy, decimal}
 use Rattle.lines.proofs.Putting.{puts-both}
@@ -43,6 +46,28 @@ digits-by (suc f) n (suc (suc k)) h w =
 pub fewest-decimal : (n k : ℕ) → Fewest 10 1 n k → digits 10 k n ≡ decimal n
 unfolding decimal
 fewest-decimal n k = digits-by n n k (omega arith)
+
+-- at most so many digits
+one-more : (f n k : ℕ) → n < 10 ^ suc k → ((j : ℕ) → n / 10 < 10 ^ suc j → length (decimalBy f (n / 10)) ≤ suc j)
+    → length (decimalBy (suc f) n) ≤ suc k
+unfolding decimalBy
+one-more f n k h i = go k (ltb n 10) refl h
+  where
+    go : (k : ℕ) (t : Bool) → ltb n 10 ≡ t → n < 10 ^ suc k → length (decimalBy (suc f) n) ≤ suc k
+    go k true e g = rw e (omega arith)
+    go zero false e g = absurd (omega (arith, ltb-false n 10 e))
+    go (suc k) false e g =
+        let q : 10 ^ suc (suc k) ≡ 10 ^ suc k * 10 = pow-suc 10 (suc k) in
+        rw (e, length-append) (omega (arith, i k (omega arith)))
+
+short-by : (f n k : ℕ) → n < 10 ^ suc k → length (decimalBy f n) ≤ suc k
+unfolding decimalBy
+short-by zero n k h = omega arith
+short-by (suc f) n k h = one-more f n k h (λ j. short-by f (n / 10) j)
+
+pub decimal-short : (n k : ℕ) → n < 10 ^ suc k → length (decimal n) ≤ suc k
+unfolding decimal
+decimal-short n = short-by n n
 
 -- a number that is put digit by digit, and a byte after it
 module _ {text before after last : List ℕ} {at p r k n b : ℕ} where

@@ -1,5 +1,5 @@
 -- Hexadecimal digits and pairs of them.
-use Prim.Native.Nat.{ℕ, zero, suc, _+_, _-_, _*_, _/_, _%_, _≤_, _<_}
+use Prim.Native.Nat.{ℕ, _+_, _-_, _*_, _/_, _%_, _≤_, _<_}
 use mathlib.Core.Path.{_≡_, refl}
 use mathlib.Core.Bool.{Bool, true, false, _&&_}
 use mathlib.Core.List.{List, [], _∷_, _++_}
@@ -44,6 +44,11 @@ pub hex-append : (bs cs : List ℕ) → hexText (bs ++ cs) ≡ hexText bs ++ hex
 unfolding hexText
 hex-append [] cs = refl
 hex-append (b ∷ bs) cs = rw (hex-append bs cs)
+
+pub hex-length : (bs : List ℕ) → length (hexText bs) ≡ 2 * length bs
+unfolding hexText
+hex-length [] = refl
+hex-length (b ∷ bs) = rw (hex-length bs) (omega arith)
 
 -- a loop that puts bytes: its start, and one turn
 pub hex-none : (before : List ℕ) (at : ℕ) → at ≤ length before → Puts (hexText []) before at before at

@@ -6,7 +6,7 @@ use mathlib.Core.List.{List, [], _∷_, _++_, append-assoc, append-nil}
 use native.Mathlib.Omega.{arith}
 use native.Mathlib.Numerals.{add-one}
 use lib.ListN.{length, getD, take, drop, set, length-set, drop-of-length-le}
-use lib.Seq.{drop-cons, take-suc-set, length-take-le, take-take}
+use lib.Seq.{drop-cons, take-suc-set, length-take-le}
 use borrow.Author.Tests.{lt-ltb, le-ltb, eq-eqb, ne-eqb}
 use Rattle.lines.specs.declared.HexCount.the-variants as count
 use Rattle.lines.specs.Hex.{hexValue, allHex, pairs, whole, bad, many, bytesIn, HexCounted}

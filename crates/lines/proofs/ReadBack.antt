@@ -1,6 +1,6 @@
 -- What is printed reads back.
 use Prim.Native.Nat.{ℕ, zero, suc, _+_, _-_, _*_, _/_, _%_, _^_, _≤_, _<_}
-use mathlib.Core.Path.{_≡_, refl, sym}
+use mathlib.Core.Path.{_≡_, refl}
 use mathlib.Core.Bool.{Bool, true, false}
 use mathlib.Core.List.{List, [], _∷_, _++_, append-assoc, append-nil}
 use native.Mathlib.Omega.{arith}
@@ -11,14 +11,14 @@ use borrow.Author.Tests.{lt-ltb, le-ltb, le-leb, ne-eqb, ltb-true, ltb-false}
 use Rattle.lines.specs.Text.{decimalBy, decimal, spaced}
 use Rattle.lines.specs.Numbers.{isDigit, Reading, between, inside, readByte, readTo}
 use Rattle.lines.specs.Hex.{hexDigit, hexValue, hexText, allHex, pairs, whole, bytesIn}
-use Rattle.lines.proofs.Hexes.{value-decimal, value-lower}
+use Rattle.lines.proofs.Hexes.{value-decimal, value-lower, hex-length}
 
 -- a whole text
 abbrev readAll : ℕ → List ℕ → Reading
 readAll room s = readTo room s (length s)
 
 module _ (room : ℕ) where
-  read-first : (s t : List ℕ) (i : ℕ) → i ≤ length s → readTo room (s ++ t) i ≡ readTo room s i
+  pub read-first : (s t : List ℕ) (i : ℕ) → i ≤ length s → readTo room (s ++ t) i ≡ readTo room s i
   unfolding readTo
   read-first s t zero h = refl
   read-first s t (suc i) h = rw (read-first s t i (omega arith), List·getD-append s t 0 i h)
@@ -105,11 +105,6 @@ digit-back d h = go (ltb d 10) refl
         let g : 10 ≤ d = ltb-false d 10 e in
         let k : 87 + d - 87 ≡ d = omega arith in
         rw (e, ← value-lower (87 + d) (omega arith) (omega arith), k)
-
-pub hex-length : (bs : List ℕ) → length (hexText bs) ≡ 2 * length bs
-unfolding hexText
-hex-length [] = refl
-hex-length (b ∷ bs) = rw (hex-length bs) (omega arith)
 
 module _ (b : ℕ) (h : b < 256) where
   high-back : hexValue (hexDigit (b / 16)) ≡ b / 16

@@ -1,13 +1,15 @@
--- A row that is put number by number, and rows one after the other.
-use Prim.Native.Nat.{ℕ, zero, suc, _+_, _-_, _*_, _≤_, _<_}
-use mathlib.Core.Path.{_≡_, refl, sym}
+-- A row that is put number by number, and rows one after the other; a row reads back.
+use Prim.Native.Nat.{ℕ, zero, suc, _+_, _-_, _*_, _^_, _≤_, _<_}
+use mathlib.Core.Path.{_≡_, refl}
 use mathlib.Core.List.{List, [], _∷_, _++_, append-assoc, append-nil}
 use native.Mathlib.Omega.{arith}
 use native.Mathlib.Numerals.{add-one}
-use lib.ListN.{length, getD, take, drop}
+use lib.ListN.{length, getD, take, drop, length-append}
 use lib.Seq.{take-suc, take-all, drop-drop}
 use Rattle.lines.specs.Text.{Puts, ascii, decimal, spaced}
+use Rattle.lines.specs.Numbers.{inside, readTo}
 use Rattle.lines.proofs.Putting.{puts-none, puts-both}
+use Rattle.lines.proofs.ReadBack.{read-first, numbers-back}
 use Rattle.replies.specs.ReplyText.{rowText, rowsText}
 
 spaced-append : (ns ms : List ℕ) → spaced (ns ++ ms) ≡ spaced ns ++ spaced ms
@@ -58,3 +60,12 @@ module _ (rows before : List ℕ) (at : ℕ) where
 pub rows-reply : {before after last : List ℕ} {p r : ℕ} (n : ℕ) (rows : List ℕ) → Puts (ascii "ok " ++ (decimal n ++ ascii "\n")) before 0 after p
     → Puts (rowsText n rows) after p last r → Puts (ascii "ok " ++ (decimal n ++ (ascii "\n" ++ rowsText n rows))) before 0 last r
 rows-reply n rows a b = simp append-assoc at (puts-both a b)
+
+-- a row, without its line end, reads back
+pub row-back : (room : ℕ) (ns : List ℕ) (n : ℕ) → ((i : ℕ) → getD ns i 0 < 10 ^ 19) → n < 10 ^ 19 → length ns < room
+    → readTo room (rowText (ns ++ (n ∷ []))) (length (rowText (ns ++ (n ∷ []))) - 1) ≡ inside ns n
+row-back room ns n h k g =
+    let s = spaced ns ++ decimal n in
+    let e : rowText (ns ++ (n ∷ [])) ≡ s ++ (10 ∷ []) = rw (row-of ns n) (simp append-assoc) in
+    let l : length (s ++ (10 ∷ [])) - 1 ≡ length s = omega (arith, length-append s (10 ∷ [])) in
+    rw (e, l, read-first room s (10 ∷ []) (length s) (omega arith)) (numbers-back room ns n h k g)

@@ -1,0 +1,107 @@
+-- The text of a reply has at most 8192 bytes.
+use Prim.Native.Nat.{ℕ, zero, suc, _+_, _*_, _^_, _≤_, _<_}
+use mathlib.Core.List.{List, [], _∷_}
+use native.Mathlib.Omega.{arith}
+use lib.Dec.{lit≤}
+use lib.ListN.{length, getD, take, drop, length-append, length-take}
+use lib.Seq.{getD-drop}
+use Rattle.model.specs.declared.Refusal.{Refusal}
+use Rattle.model.specs.declared.Refusal.the-variants as refusal
+use Rattle.model.specs.Answers.{refusalNumber}
+use Rattle.lines.specs.Text.{decimal}
+use Rattle.lines.proofs.Decimals.{decimal-short}
+use Rattle.lines.proofs.Hexes.{hex-length}
+use Rattle.replies.specs.Help.{helpText}
+use Rattle.replies.specs.ReplyText.{faultText, rowText, rowsText, replyText}
+use Rattle.replies.specs.declared.Fault.{Fault}
+use Rattle.replies.specs.declared.Fault.the-variants as fault
+use Rattle.replies.specs.declared.Reply.{Reply}
+use Rattle.replies.specs.declared.Reply.the-variants as reply
+
+-- at most 32 rows, the most a tower has sections, and a file of at most 3000 bytes
+abbrev pub Moderate : Reply → Type 0
+Moderate reply.Done = Unit {0}
+Moderate (reply.Refused e) = Unit {0}
+Moderate (reply.Rows n) = n ≤ 32
+Moderate (reply.Over i) = i < 2 ^ 64
+Moderate reply.NoneOver = Unit {0}
+Moderate (reply.File n) = n ≤ 3000
+Moderate reply.Help = Unit {0}
+Moderate (reply.Wrong f) = Unit {0}
+
+word-short : (n : ℕ) → n < 2 ^ 64 → length (decimal n) ≤ 20
+word-short n h = decimal-short n 19 (omega arith)
+
+row-cons : (n : ℕ) (row : List ℕ) → length (rowText (n ∷ row)) ≤ length (decimal n) + 1 + length (rowText row)
+unfolding rowText
+row-cons n [] = rw length-append (omega arith)
+row-cons n (m ∷ row) = rw length-append (omega arith)
+
+row-short : (k : ℕ) (row : List ℕ) → ((i : ℕ) → getD row i 0 < 2 ^ 64) → length (rowText (take k row)) ≤ 1 + 21 * k
+unfolding rowText
+row-short zero row h = omega arith
+row-short (suc k) [] h = omega arith
+row-short (suc k) (n ∷ row) h =
+    omega (arith, row-cons n (take k row), word-short n (h 0), row-short k row (λ i. h (suc i)))
+
+rows-short : (n : ℕ) (rows : List ℕ) → ((i : ℕ) → getD rows i 0 < 2 ^ 64) → length (rowsText n rows) ≤ 127 * n
+unfolding rowsText
+rows-short zero rows h = omega arith
+rows-short (suc n) rows h =
+    rw length-append
+    (omega (arith, row-short 6 rows h, rows-short n (drop 6 rows) (λ i. rw getD-drop (h (6 + i)))))
+
+refusal-small : (e : Refusal) → refusalNumber e ≤ 22
+refusal-small refusal.NoTower = lit≤ tt
+refusal-small refusal.FileEnds = lit≤ tt
+refusal-small refusal.Legs = lit≤ tt
+refusal-small refusal.SectionCount = lit≤ tt
+refusal-small refusal.SectionSize = lit≤ tt
+refusal-small refusal.GroupCount = lit≤ tt
+refusal-small refusal.GroupField = lit≤ tt
+refusal-small refusal.BareSolidity = lit≤ tt
+refusal-small refusal.ItemCount = lit≤ tt
+refusal-small refusal.ItemNumber = lit≤ tt
+refusal-small refusal.ItemSection = lit≤ tt
+refusal-small refusal.ItemField = lit≤ tt
+refusal-small refusal.BytesFollow = lit≤ tt
+refusal-small refusal.NoSuchItem = lit≤ tt
+refusal-small refusal.Direction = lit≤ tt
+refusal-small refusal.IceClass = lit≤ tt
+refusal-small refusal.StructureFactor = lit≤ tt
+refusal-small refusal.PressureCount = lit≤ tt
+refusal-small refusal.Pressure = lit≤ tt
+refusal-small refusal.IcedSolidity = lit≤ tt
+refusal-small refusal.NoWind = lit≤ tt
+refusal-small refusal.OutputShort = lit≤ tt
+
+fault-short : (f : Fault) → length (faultText f) ≤ 25
+fault-short fault.NoRequest = lit≤ tt
+fault-short fault.FewWords = lit≤ tt
+fault-short fault.ManyWords = lit≤ tt
+fault-short fault.NotDecimal = lit≤ tt
+fault-short fault.TooLarge = lit≤ tt
+fault-short fault.NotHex = lit≤ tt
+fault-short fault.LongLine = lit≤ tt
+
+help-short : length helpText ≤ 8192
+unfolding helpText
+help-short = lit≤ tt
+
+pub reply-short : (rows file : List ℕ) (r : Reply) → ((i : ℕ) → getD rows i 0 < 2 ^ 64) → Moderate r → length (replyText rows file r) ≤ 8192
+unfolding replyText
+reply-short rows file reply.Done h g = lit≤ tt
+reply-short rows file (reply.Refused e) h g =
+    let d : length (decimal (refusalNumber e)) ≤ 20 = word-short _ (omega (arith, refusal-small e)) in
+    simp length-append (omega arith)
+reply-short rows file (reply.Rows n) h g =
+    let d : length (decimal n) ≤ 20 = word-short n (omega arith) in
+    simp length-append (omega (arith, rows-short n rows h))
+reply-short rows file (reply.Over i) h g =
+    let d : length (decimal i) ≤ 20 = word-short i g in
+    simp length-append (omega arith)
+reply-short rows file reply.NoneOver h g = lit≤ tt
+reply-short rows file (reply.File n) h g =
+    simp (length-append, hex-length, length-take) (omega arith)
+reply-short rows file reply.Help h g = help-short
+reply-short rows file (reply.Wrong f) h g = simp length-append (omega (arith, fault-short f))
