@@ -15,10 +15,12 @@ pub record Puts (text before : List ℕ) (at : ℕ) (after : List ℕ) (r : ℕ)
   pub high : r ≤ length before
   pub put : at + length text ≤ length before → (r ≡ at + length text) × (take r after ≡ take at before ++ text)
 
--- the decimal digits of n, the most significant first, by at most k divisions, of which n are enough
+-- the decimal digits of n, the most significant first, by at most k divisions, of which n are enough; `more` is worked out only where it is needed
 unfoldable pub decimalBy : ℕ → ℕ → List ℕ
 decimalBy zero n = (48 + n) ∷ []
-decimalBy (suc k) n = cond (ltb n 10) ((48 + n) ∷ []) (decimalBy k (n / 10) ++ ((48 + n % 10) ∷ []))
+decimalBy (suc k) n =
+    let more = decimalBy k (n / 10) ++ ((48 + n % 10) ∷ []) in
+    cond (ltb n 10) ((48 + n) ∷ []) more
 
 unfoldable pub decimal : ℕ → List ℕ
 decimal n = decimalBy n n
