@@ -7,7 +7,6 @@
 //! least whole number of newtons that is not below the exact force.
 
 pub mod areas;
-pub mod call_cases;
 pub mod cases;
 pub mod description;
 pub mod draw;
@@ -22,9 +21,12 @@ pub mod plain;
 pub mod rational;
 pub mod refusal;
 pub mod report;
+pub mod request_lists;
+pub mod requests;
 pub mod rules;
 pub mod sample;
 pub mod service;
 pub mod tower;
+pub mod transcript;
 pub mod units;
 pub mod vectors;

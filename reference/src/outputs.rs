@@ -1,6 +1,6 @@
 //! The table of expected outputs, one entry per program crate.
 
-use crate::{call_cases, cases, file_cases};
+use crate::{cases, file_cases, request_lists, transcript};
 
 /// One file of a program's folder.
 #[derive(Clone, Debug, PartialEq, Eq)]
@@ -31,7 +31,11 @@ pub const GENERATORS: &[Generator] = &[
         files: file_cases::files,
     },
     Generator {
-        program: "call_cases",
-        files: call_cases::files,
+        program: "towerd",
+        files: request_lists::files,
+    },
+    Generator {
+        program: "samples",
+        files: transcript::files,
     },
 ];

@@ -1,11 +1,8 @@
 //! All tests of the reference version.
 
 mod arithmetic;
-mod call_cases;
-mod call_lines;
 mod call_lists;
 mod call_refusals;
-mod call_samples;
 mod cases;
 mod common;
 mod describe;
@@ -24,5 +21,10 @@ mod host;
 mod least_force;
 mod plain;
 mod refused;
+mod request_lines;
+mod request_lists;
+mod requests;
 mod samples;
+mod second_parser;
+mod transcript;
 mod vectors;

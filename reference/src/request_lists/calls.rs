@@ -1,54 +1,47 @@
-//! Single calls, most of which suit a tower.
+//! Single requests, most of which suit a tower.
 
 use super::damage::damaged_file;
 use super::towers::{self, Size};
-use super::wrong::{MOST_BYTES, MOST_NUMBERS};
 use crate::draw::{self, Random};
 use crate::file;
 use crate::report::ROW;
+use crate::requests::Request;
 use crate::tower::{Item, Tower, Wind};
 use crate::units::Length;
-use crate::vectors::{damage::damage_item, Call};
+use crate::vectors::damage::damage_item;
 
-/// Any call, for this tower.
-pub fn any_call(random: &mut Random, tower: &Tower, size: Size) -> Call {
+/// Any request but help, for this tower.
+pub fn any_request(random: &mut Random, tower: &Tower, size: Size) -> Request {
     match random.within(0, 99) {
         0..=2 => erect(random, size),
-        3..=13 => Call::Erect(damaged_file(random)),
-        14..=33 => Call::Hang(item(random, tower)),
-        34..=45 => Call::TakeDown(item_number(random, tower)),
-        46..=63 => Call::Wind(any_wind(random, tower)),
-        64..=81 => report(random, tower),
-        82..=92 => Call::Check,
-        _ => write(random, tower),
+        3..=13 => Request::Erect(damaged_file(random)),
+        14..=33 => Request::Hang(item(random, tower)),
+        34..=45 => Request::TakeDown(item_number(random, tower)),
+        46..=63 => Request::Wind(any_wind(random, tower)),
+        64..=81 => Request::Report(room(random, ROW * tower.sections.len())),
+        82..=92 => Request::Check,
+        _ => Request::Write(room(random, file::write(tower).len())),
     }
 }
 
 /// A whole file. A long one seldom stands behind a list's start, and the largest
 /// never.
-fn erect(random: &mut Random, size: Size) -> Call {
+fn erect(random: &mut Random, size: Size) -> Request {
     let size = match size {
         Size::Tall | Size::Crowded if random.chance(25) => size,
         _ => Size::Small,
     };
-    Call::Erect(file::write(&towers::tower(random, size).0))
+    Request::Erect(file::write(&towers::tower(random, size).0))
 }
 
-/// Lends as many numbers as are needed, or some more or fewer.
-fn report(random: &mut Random, tower: &Tower) -> Call {
-    Call::Report(room(random, ROW * tower.sections.len(), MOST_NUMBERS))
-}
-
-/// Lends as many bytes as are needed, or some more or fewer.
-fn write(random: &mut Random, tower: &Tower) -> Call {
-    Call::Write(room(random, file::write(tower).len(), MOST_BYTES))
-}
-
-fn room(random: &mut Random, needed: usize, most: usize) -> usize {
-    let more = needed + random.within(1, 20) as usize;
-    let fewer = random.within(0, needed as u32 - 1) as usize;
-    let rooms = [needed, needed, needed, more, more, needed - 1, fewer, most];
-    random.pick(&rooms).min(most)
+/// None, as many elements as are needed, or some more or fewer.
+fn room(random: &mut Random, needed: usize) -> Option<u64> {
+    let needed = needed as u64;
+    let more = needed + u64::from(random.within(1, 20));
+    let fewer = u64::from(random.within(0, needed as u32 - 1));
+    let any = random.next_bits() >> random.within(1, 60);
+    let some = [needed, needed, more, needed - 1, fewer, any].map(Some);
+    random.pick(&[&some[..], &[None, None]].concat())
 }
 
 /// A number that is held, or any.
