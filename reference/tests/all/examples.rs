@@ -3,7 +3,7 @@
 use crate::common::rows;
 use reference::description::{file_of, text_of};
 use reference::file;
-use reference::refusal::Refusal;
+use reference::requests::session;
 use reference::service::Service;
 use reference::tower::{Item, Legs, Member, Tower};
 use reference::units::Length;
@@ -118,80 +118,10 @@ fn the_session_is_answered_as_stored() {
         .collect();
     let expected = "erect wind report check hang report check takedown check wind report write";
     assert_eq!(words.join(" "), expected);
-    let mut service = Service::fresh();
-    let answers: String = requests
-        .lines()
-        .map(|request| answer(&mut service, request) + "\n")
-        .collect();
+    let answers = String::from_utf8(session(requests.as_bytes())).expect("text");
     let expected = String::from_utf8(example("session.out")).expect("text");
     for (answer, expected) in answers.lines().zip(expected.lines()) {
         assert_eq!(answer, expected);
     }
     assert!(answers == expected, "lines are missing or too many");
-}
-
-/// The answer to a request as the service program words it; a request of the
-/// session has all its words.
-fn answer(service: &mut Service, request: &str) -> String {
-    let mut words = request.split(' ');
-    let word = words.next().expect("a word");
-    if word == "erect" {
-        return done(service.erect(&bytes(words.next().expect("a file"))));
-    }
-    let numbers: Vec<u16> = words.map(|n| n.parse().expect("a number")).collect();
-    match word {
-        "hang" => done(service.hang(item(&numbers))),
-        "takedown" => done(service.take_down(numbers[0])),
-        "wind" => {
-            let [k, ice, factor] = [0, 1, 2].map(|place| numbers[place].into());
-            done(service.wind(k, ice, factor, &numbers[3..]))
-        }
-        "report" => report(&rows(service)),
-        "check" => match service.check() {
-            Ok(None) => "ok none".to_string(),
-            Ok(Some(section)) => format!("ok {section}"),
-            Err(refusal) => refused(refusal),
-        },
-        "write" => {
-            let file = file::write(service.tower().expect("a tower"));
-            let digits = file.iter().map(|byte| format!("{byte:02x}"));
-            format!("ok {}", digits.collect::<String>())
-        }
-        other => panic!("{other} is no request"),
-    }
-}
-
-fn done(answer: Result<(), Refusal>) -> String {
-    answer.map_or_else(refused, |()| "ok".to_string())
-}
-
-fn refused(refusal: Refusal) -> String {
-    format!("refused {}", refusal.number())
-}
-
-fn report(numbers: &[u64]) -> String {
-    let mut lines = vec![format!("ok {}", numbers.len() / 6)];
-    for row in numbers.chunks(6) {
-        let row: Vec<String> = row.iter().map(u64::to_string).collect();
-        lines.push(row.join(" "));
-    }
-    lines.join("\n")
-}
-
-fn item(numbers: &[u16]) -> Item {
-    Item {
-        number: numbers[0],
-        section: numbers[1] as u8,
-        width: Length(numbers[2].into()),
-        length: Length(numbers[3].into()),
-        bare: numbers[4],
-        iced: numbers[5],
-        position: numbers[6],
-    }
-}
-
-fn bytes(digits: &str) -> Vec<u8> {
-    let pairs = (0..digits.len()).step_by(2);
-    let byte = |at| u8::from_str_radix(&digits[at..at + 2], 16).expect("two digits");
-    pairs.map(byte).collect()
 }

@@ -1,0 +1,6 @@
+pub mod Typed
+pub mod Asking
+pub mod Stepping
+pub mod Answering
+pub mod Responding
+pub mod Sessions

@@ -1,0 +1,3 @@
+pub mod RequestSteps
+pub mod Responds
+pub mod Sessions

@@ -1,0 +1,92 @@
+// The service on standard input and output, from a fresh state until the input ends. A request is a line, and its answer is written before
+// another request is read; `help` says what the requests are. A line that is too long is answered once, at its end.
+mod refill;
+
+ghost use Prim.Native.Nat.{_≤_, _<_};
+ghost use lib.ListN.{length};
+ghost use Rattle.lines.specs.Text.{Puts};
+use crate::refill::refill;
+use bytes::scan::find;
+use handler::respond::respond;
+use libc::STDOUT_FILENO;
+use replies::Fault;
+use replies::Reply;
+use replies::text::put_reply;
+use service::State;
+
+// The bytes from `at` to `end` of the buffer are read and not answered yet. `cut` says that the start of a line was dropped, since it is
+// too long, `ended` that the input has ended, and `open` that there is more to answer.
+struct Input {
+    at: usize,
+    end: usize,
+    cut: bool,
+    ended: bool,
+    open: bool,
+}
+
+// The state after a line, and whether more answers can be written.
+struct Answered {
+    state: State,
+    open: bool,
+}
+
+// A line whose start was dropped.
+fn refuse_long(out: &mut [u8]) -> bool {
+    let n = put_reply(out, Reply::Wrong(Fault::LongLine), &[], &[]);
+    io::write_all(STDOUT_FILENO, &out[0..n])
+}
+
+// A line, and whether its answer could be written.
+fn answer(
+    s: State,
+    line: &[u8],
+    numbers: &mut [u64],
+    rows: &mut [u64],
+    file: &mut [u8],
+    out: &mut [u8],
+) -> Answered {
+    let next = respond(s, line, numbers, rows, file, out);
+    let n = next.length;
+    let state = next.state;
+    let open = io::write_all(STDOUT_FILENO, &out[0..n]);
+    Answered { state, open }
+}
+
+fn serve(buf: &mut [u8], numbers: &mut [u64], rows: &mut [u64], file: &mut [u8], out: &mut [u8]) {
+    let mut state = service::whole::fresh();
+    let mut input = Input {
+        at: 0,
+        end: 0,
+        cut: false,
+        ended: false,
+        open: true,
+    };
+    let mut turns = u64::MAX;
+    while turns > 0 && input.open {
+        turns -= 1;
+        let at = input.at;
+        let end = input.end;
+        let stop = find(buf, at, end, b'\n');
+        if end <= stop {
+            input = refill(input, buf);
+        } else if input.cut {
+            input.at = stop + 1;
+            input.cut = false;
+            input.open = refuse_long(out);
+        } else {
+            input.at = stop + 1;
+            let next = answer(state, &buf[at..stop], numbers, rows, file, out);
+            input.open = next.open;
+            state = next.state;
+        }
+    }
+}
+
+fn main() {
+    let mut buf = [0u8; 65536];
+    let mut numbers = [0u64; 3003];
+    let mut rows = [0u64; 192];
+    let mut file = [0u8; 3000];
+    let mut out = [0u8; 8192];
+    serve(&mut buf, &mut numbers, &mut rows, &mut file, &mut out);
+}
