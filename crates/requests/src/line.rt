@@ -13,6 +13,9 @@ use lines::hex::read_hex;
 use lines::numbers::numbers_of;
 use replies::Fault;
 
+// The bytes of the longest request: an erect with 3000 bytes.
+pub const LONGEST: usize = 6006;
+
 // The text of a request's numbers.
 fn read_numbers(verb: Verb, text: &[u8], numbers: &mut [u64]) -> Request
     ensures { λ r. ⌜ DecodedNumbers (λ room. numbersText room verb (now (text .entry))) (length (now (numbers .entry))) (now (numbers .exit)) r ⌝ }
@@ -68,7 +71,7 @@ pub fn read_line(line: &[u8], numbers: &mut [u64], file: &mut [u8]) -> Request
         ⌜ Decoded (λ room. askedIn room (now (line .entry))) (length (now (numbers .entry))) (length (now (file .entry)))
         (now (numbers .exit)) (now (file .exit)) r ⌝ }
 {
-    if 6006 < line.len() {
+    if LONGEST < line.len() {
         return Request::Wrong(Fault::LongLine);
     }
     let end = find(line, 0, line.len(), b' ');

@@ -1,6 +1,10 @@
 // Document 01's sample towers as a session with the service: requests from standard input, each printed behind `> ` and followed by its
 // answer. A line that starts with # is a title and is printed as it stands.
 use bytes::scan::find;
+use handler::FILE;
+use handler::NUMBERS;
+use handler::ROWS;
+use handler::TEXT;
 use handler::respond::respond;
 use libc::STDIN_FILENO;
 use libc::STDOUT_FILENO;
@@ -53,9 +57,9 @@ fn main() {
         io::write_all(STDOUT_FILENO, b"error: the input is too long\n");
         return;
     }
-    let mut numbers = [0u64; 3003];
-    let mut rows = [0u64; 192];
-    let mut file = [0u8; 3000];
-    let mut out = [0u8; 8192];
+    let mut numbers = [0u64; NUMBERS];
+    let mut rows = [0u64; ROWS];
+    let mut file = [0u8; FILE];
+    let mut out = [0u8; TEXT];
     answer_all(&text[..n], &mut numbers, &mut rows, &mut file, &mut out);
 }

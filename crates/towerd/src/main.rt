@@ -2,11 +2,12 @@
 // another request is read; `help` says what the requests are. A line that is too long is answered once, at its end.
 mod refill;
 
-ghost use Prim.Native.Nat.{_≤_, _<_};
-ghost use lib.ListN.{length};
-ghost use Rattle.lines.specs.Text.{Puts};
 use crate::refill::refill;
 use bytes::scan::find;
+use handler::FILE;
+use handler::NUMBERS;
+use handler::ROWS;
+use handler::TEXT;
 use handler::respond::respond;
 use libc::STDOUT_FILENO;
 use replies::Fault;
@@ -84,9 +85,9 @@ fn serve(buf: &mut [u8], numbers: &mut [u64], rows: &mut [u64], file: &mut [u8],
 
 fn main() {
     let mut buf = [0u8; 65536];
-    let mut numbers = [0u64; 3003];
-    let mut rows = [0u64; 192];
-    let mut file = [0u8; 3000];
-    let mut out = [0u8; 8192];
+    let mut numbers = [0u64; NUMBERS];
+    let mut rows = [0u64; ROWS];
+    let mut file = [0u8; FILE];
+    let mut out = [0u8; TEXT];
     serve(&mut buf, &mut numbers, &mut rows, &mut file, &mut out);
 }

@@ -5,9 +5,7 @@ ghost use Rattle.towerd.specs.Buffered.{Buffered, Moved};
 use crate::Input;
 use libc::STDIN_FILENO;
 use lines::text::put;
-
-// The longest request.
-const LONGEST: usize = 6006;
+use requests::line::LONGEST;
 
 // The n bytes from `at` on, moved to the start.
 fn move_down(buf: &mut [u8], at: usize, n: usize)
