@@ -5,7 +5,7 @@ use std::path::Path;
 fn main() {
     let folder = Path::new(env!("CARGO_MANIFEST_DIR")).join("../../target/staticlib");
     println!("cargo::rustc-link-search=native={}", folder.display());
-    for name in ["force_bench", "file_bench"] {
+    for name in ["force_bench", "file_bench", "call_bench"] {
         let library = folder.join(format!("lib{name}.a"));
         println!("cargo::rerun-if-changed={}", library.display());
         if library.is_file() {

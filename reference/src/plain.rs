@@ -1,14 +1,26 @@
 //! Document 01's formula in plain floating point, as an engineer would write
 //! it. It is near the exact force, at times below it, and only compared with.
 
-use crate::areas::{areas, gross_face_area};
-use crate::tower::{Legs, Section, Wind};
+use crate::areas::{areas, gross_face_area, item_area, Areas};
+use crate::tower::{Legs, Section, Tower, Wind, SECTION_COUNT};
 use crate::units::Area;
 
 /// The force on a section in N at pressure q, not rounded. `items` is the sum
 /// of coefficient times K times area over its items, in m².
 pub fn force(legs: Legs, section: &Section, wind: &Wind, pressure: u16, items: f64) -> f64 {
     let areas = areas(section, wind.ice_thickness(), pressure);
+    force_on(legs, section, areas, wind, pressure, items)
+}
+
+/// The same with the section's areas ready made.
+fn force_on(
+    legs: Legs,
+    section: &Section,
+    areas: Areas,
+    wind: &Wind,
+    pressure: u16,
+    items: f64,
+) -> f64 {
     let solid = number(areas.solid());
     let phi = solid / number(gross_face_area(section));
     let (flat, subcritical, supercritical) = (
@@ -36,6 +48,52 @@ pub fn force(legs: Legs, section: &Section, wind: &Wind, pressure: u16, items: f
 /// The force rounded up to whole newtons.
 pub fn whole_force(legs: Legs, section: &Section, wind: &Wind, pressure: u16, items: f64) -> u64 {
     force(legs, section, wind, pressure, items).ceil() as u64
+}
+
+/// One section's row of a report.
+#[derive(Clone, Copy, Debug, PartialEq)]
+pub struct Row {
+    /// A_f, A_c and A_p.
+    pub areas: Areas,
+    /// Rounded up to whole newtons.
+    pub force: f64,
+    /// The shear at the section's foot in N.
+    pub shear: f64,
+    /// The moment at the section's foot in N mm.
+    pub moment: f64,
+}
+
+/// All rows, from the top.
+pub fn rows(tower: &Tower, wind: &Wind) -> Vec<Row> {
+    let items = item_sums(tower, wind);
+    let (mut shear, mut moment) = (0.0, 0.0);
+    let row = |(place, section): (usize, &Section)| {
+        let pressure = wind.pressures[place];
+        let areas = areas(section, wind.ice_thickness(), pressure);
+        let force = force_on(tower.legs, section, areas, wind, pressure, items[place]).ceil();
+        let height = f64::from(section.height.0);
+        moment += shear * height + force * height / 2.0;
+        shear += force;
+        Row {
+            areas,
+            force,
+            shear,
+            moment,
+        }
+    };
+    tower.sections.iter().enumerate().map(row).collect()
+}
+
+/// The sum of coefficient times K times area over each section's items, in m².
+fn item_sums(tower: &Tower, wind: &Wind) -> [f64; *SECTION_COUNT.end() as usize] {
+    let ice = wind.ice_thickness();
+    let mut sums = [0.0; *SECTION_COUNT.end() as usize];
+    for item in &tower.items {
+        let coefficient = if ice.0 > 0 { item.iced } else { item.bare };
+        let factors = f64::from(coefficient) / 1e3 * f64::from(item.position) / 1e3;
+        sums[usize::from(item.section)] += factors * number(item_area(item, ice)) / 1e6;
+    }
+    sums
 }
 
 fn number(area: Area) -> f64 {

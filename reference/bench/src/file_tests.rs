@@ -1,10 +1,9 @@
-//! Tests of the tower files, their bytes, the table and the words, with the
-//! library linked.
+//! Tests of the tower files, their bytes and the table, with the library linked.
 
 use crate::file::{timed_files, TimedFile, Work};
 use crate::library;
-use crate::speed::{head, line, megabytes, Speeds};
-use crate::words::{parse, Command, USAGE};
+use crate::speed::megabytes;
+use crate::timing::{pair_head, pair_line, Pair};
 use reference::draw::{small_tower, Random};
 use reference::file::{read, write};
 use reference::file_cases::{largest, triangle};
@@ -75,33 +74,17 @@ fn the_library_turns_down_a_refused_file_and_lent_bytes_that_are_too_few() {
 fn the_table_has_megabytes_and_their_ratio() {
     // 2 915 bytes in 5 830 ns are 500 bytes a microsecond
     assert_eq!(megabytes(2_915, 5_830.0), 500.0);
-    let shown = line(
+    let shown = pair_line(
         "largest, 2915 bytes, read",
-        Speeds {
+        Pair {
             library: 500.0,
             rust: 400.04,
         },
     );
-    assert_eq!(shown.len(), head().len());
+    assert_eq!(shown.len(), pair_head("MB/s of a tower file").len());
     let words: Vec<&str> = shown.split_whitespace().collect();
     let wanted = [
         "largest,", "2915", "bytes,", "read", "500.0", "400.0", "1.25",
     ];
     assert_eq!(words, wanted);
-}
-
-#[test]
-fn the_words_choose() {
-    let words = |line: &str| -> Vec<String> { line.split(' ').map(String::from).collect() };
-    let run = |force, file, each| Ok(Command::Run { force, file, each });
-    assert_eq!(parse(&[]), run(true, true, false));
-    assert_eq!(parse(&words("--each")), run(true, true, true));
-    assert_eq!(parse(&words("force")), run(true, false, false));
-    assert_eq!(parse(&words("file")), run(false, true, false));
-    assert_eq!(parse(&words("file --each")), run(false, true, true));
-    assert_eq!(parse(&words("--each force")), run(true, false, true));
-    assert_eq!(parse(&words("force file")), run(true, true, false));
-    assert_eq!(parse(&words("file --help")), Ok(Command::Help));
-    assert_eq!(parse(&words("files")), Err("unknown word: files".into()));
-    assert!(USAGE.starts_with("usage: bench [force|file] [--each]\n"));
 }

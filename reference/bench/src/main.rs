@@ -1,29 +1,43 @@
 //! Times the proved libraries beside Rust versions, all in one run on the same
-//! inputs: the section force beside a plain floating-point version and the exact
-//! one, and the tower file's reader and writer beside those of the Rust version.
+//! inputs: the section force and the report beside a plain floating-point version
+//! and the exact one, and the tower file and the other calls beside the Rust
+//! version; and the service program behind a pipe.
 
+#[cfg(test)]
+mod call_tests;
+mod calls;
 mod file;
 #[cfg(test)]
 mod file_tests;
 #[allow(unsafe_code)]
 mod library;
+mod pipe;
+#[cfg(test)]
+mod pipe_tests;
+mod rates;
+mod requests;
 mod section;
 mod speed;
 #[cfg(test)]
 mod tests;
 mod timing;
+mod towers;
+#[cfg(test)]
+mod word_tests;
 mod words;
 
+use calls::{mast, timed_calls, timed_towers, with_room, TimedTower};
 use file::{timed_files, TimedFile, Work};
+use rates::Rate;
 use section::{sections, Timed};
 use std::process::ExitCode;
-use timing::{head, line, mean, times, worst, Times};
-use words::{parse, Command, USAGE};
+use timing::{head, line, mean, pair_head, pair_line, times, worst, Times};
+use words::{parse, Command, Parts, USAGE};
 
 /// Sections of each kind.
 const SECTIONS: usize = 32;
 
-/// Repetitions for each section and each file.
+/// Repetitions for each section, file and tower.
 const REPETITIONS: u32 = 15;
 
 fn main() -> ExitCode {
@@ -36,12 +50,15 @@ fn main() -> ExitCode {
             print!("{USAGE}");
             ExitCode::SUCCESS
         }
-        Ok(Command::Run { force, file, each }) => {
-            let differ = [force && !run_force(each), file && !run_file(each)];
-            if differ.contains(&true) {
-                ExitCode::FAILURE
-            } else {
+        Ok(Command::Run {
+            parts,
+            each,
+            towerd,
+        }) => {
+            if run(parts, each, &towerd) {
                 ExitCode::SUCCESS
+            } else {
+                ExitCode::FAILURE
             }
         }
         Err(wrong) => {
@@ -49,6 +66,17 @@ fn main() -> ExitCode {
             ExitCode::from(2)
         }
     }
+}
+
+/// Times these parts; whether nothing differs.
+fn run(parts: Parts, each: bool, towerd: &str) -> bool {
+    let differ = [
+        parts.force && !run_force(each),
+        parts.file && !run_file(each),
+        parts.calls && !run_calls(each),
+        parts.pipe && !run_pipe(towerd, each),
+    ];
+    !differ.contains(&true)
 }
 
 /// Says each difference; whether there is none.
@@ -67,7 +95,7 @@ fn run_force(each: bool) -> bool {
     let differences: Vec<String> = all.filter_map(Timed::difference).collect();
     let same = none_differs(&differences);
     if same {
-        println!("{}", head());
+        println!("{}", head("ns per section force"));
         for (name, sections) in &kinds {
             show(name, sections, each);
         }
@@ -98,15 +126,64 @@ fn run_file(each: bool) -> bool {
     let differences: Vec<String> = files.iter().flat_map(both).flatten().collect();
     let same = none_differs(&differences);
     if same {
-        println!("{}", speed::head());
+        println!("{}", pair_head("MB/s of a tower file"));
         let shown = if each { &files[..] } else { &files[..1] };
         for file in shown {
             for work in Work::ALL {
                 let name = format!("{}, {} bytes, {}", file.name, file.bytes(), work.name());
                 let speeds = speed::speeds(file, work, REPETITIONS);
-                println!("{}", speed::line(&name, speeds));
+                println!("{}", pair_line(&name, speeds));
             }
         }
     }
     same
+}
+
+/// Compares the reports and, if they are the same, times the calls on the largest
+/// towers or on each.
+fn run_calls(each: bool) -> bool {
+    let (towers, calls) = (timed_towers(), timed_calls());
+    let mut differences: Vec<String> = towers.iter().filter_map(TimedTower::difference).collect();
+    differences.extend(calls.iter().filter_map(|(call, on)| call.difference(on)));
+    let same = none_differs(&differences);
+    if same {
+        println!("{}", head("ns per report"));
+        for timed in towers.iter().take(if each { towers.len() } else { 2 }) {
+            println!("{}", line(timed.name, times(timed, REPETITIONS)));
+        }
+        println!("{}", pair_head("ns per call"));
+        for (call, on) in calls.iter().take(if each { calls.len() } else { 2 }) {
+            let times = call.times(on, REPETITIONS);
+            println!("{}", pair_line(&call.name(on), times));
+        }
+    }
+    same
+}
+
+/// Times requests through a pipe and compares all answers.
+fn run_pipe(towerd: &str, each: bool) -> bool {
+    println!("{}", rates::head());
+    let done = show_rates(towerd, each);
+    if let Err(wrong) = &done {
+        eprintln!("bench: {wrong}");
+    }
+    done.is_ok()
+}
+
+/// Prints the table of requests through a pipe.
+fn show_rates(towerd: &str, each: bool) -> Result<(), String> {
+    for timed in [mast(), with_room()] {
+        for (what, rate) in rates::on_tower(towerd, &timed)? {
+            println!("{}", rates::line(&format!("{}: {what}", timed.name), rate));
+        }
+    }
+    let million = |place: usize, rate: Rate| {
+        if each {
+            println!("{}", rates::line(&format!("million {place}"), rate));
+        }
+    };
+    for (name, rate) in rates::long(towerd, &with_room(), million)?.named() {
+        println!("{}", rates::line(name, rate));
+    }
+    Ok(())
 }

@@ -1,6 +1,7 @@
 //! The timed sections, and the three versions of their forces.
 
 use crate::library;
+use crate::timing::Versions;
 use reference::areas::areas;
 use reference::cases::{random_cases, Case};
 use reference::plain::whole_force;
@@ -35,13 +36,25 @@ impl Timed {
         self.case.pressure() - (round % PRESSURES) as u16
     }
 
-    /// The sum of so many forces of the proved library.
-    pub fn library(&self, rounds: u64) -> u64 {
+    /// Says where the library and the exact version differ, if they do.
+    pub fn difference(&self) -> Option<String> {
+        let (library, exact) = (self.library(PRESSURES), self.exact(PRESSURES));
+        let line = self.case.line();
+        let differ = || format!("library {library}, exact {exact} for {line}");
+        (library != exact).then(differ)
+    }
+}
+
+/// Sums of so many forces.
+impl Versions for Timed {
+    const FAST_ROUNDS: u64 = 256 * PRESSURES;
+    const EXACT_ROUNDS: u64 = PRESSURES;
+
+    fn library(&self, rounds: u64) -> u64 {
         library::sum(black_box(&self.words), rounds)
     }
 
-    /// The same in plain floating point.
-    pub fn plain(&self, rounds: u64) -> u64 {
+    fn plain(&self, rounds: u64) -> u64 {
         let case = &self.case;
         let force = |round| {
             let (legs, pressure) = (case.tower.legs, self.pressure(round));
@@ -51,22 +64,13 @@ impl Timed {
         (0..rounds).map(force).fold(0, u64::wrapping_add)
     }
 
-    /// The same, exactly.
-    pub fn exact(&self, rounds: u64) -> u64 {
+    fn exact(&self, rounds: u64) -> u64 {
         let mut case = self.case.clone();
         let force = |round| {
             case.wind.pressures[0] = self.pressure(round);
             black_box(&case).exact_force().least_whole().0
         };
         (0..rounds).map(force).fold(0, u64::wrapping_add)
-    }
-
-    /// Says where the library and the exact version differ, if they do.
-    pub fn difference(&self) -> Option<String> {
-        let (library, exact) = (self.library(PRESSURES), self.exact(PRESSURES));
-        let line = self.case.line();
-        let differ = || format!("library {library}, exact {exact} for {line}");
-        (library != exact).then(differ)
     }
 }
 

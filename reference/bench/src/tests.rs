@@ -2,7 +2,7 @@
 
 use crate::library;
 use crate::section::{sections, PRESSURES};
-use crate::timing::{head, line, mean, worst, Times};
+use crate::timing::{head, line, mean, worst, Times, Versions};
 
 const TIMES: [Times; 2] = [
     Times {
@@ -74,7 +74,7 @@ fn the_table_has_means_and_the_slowest_section() {
     assert_eq!(mean(&TIMES), middle);
     assert_eq!(worst(&TIMES), TIMES[0]);
     let shown = line("flats, mean", middle);
-    assert_eq!(shown.len(), head().len());
+    assert_eq!(shown.len(), head("ns per section force").len());
     let words: Vec<&str> = shown.split_whitespace().collect();
     let wanted = ["flats,", "mean", "300.0", "20.0", "8500.0", "15.00", "28.3"];
     assert_eq!(words, wanted);

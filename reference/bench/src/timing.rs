@@ -1,10 +1,9 @@
-//! Times of the three versions on a section, and the table of them.
+//! Times of two or three versions, and the tables of them.
 
-use crate::section::{Timed, PRESSURES};
 use std::hint::black_box;
 use std::time::Instant;
 
-/// Nanoseconds per section force.
+/// Nanoseconds per round.
 #[derive(Clone, Copy, Debug, PartialEq)]
 pub struct Times {
     /// The proved library.
@@ -15,11 +14,24 @@ pub struct Times {
     pub exact: f64,
 }
 
-/// Rounds of the two fast versions in each repetition.
-const ROUNDS: u64 = 256 * PRESSURES;
+/// Three versions of the same work, each of which is asked for so many rounds of
+/// it and answers something that depends on them.
+pub trait Versions {
+    /// Rounds of the two fast versions in each repetition.
+    const FAST_ROUNDS: u64;
+    /// Rounds of the exact version in each repetition.
+    const EXACT_ROUNDS: u64;
+
+    /// The proved library.
+    fn library(&self, rounds: u64) -> u64;
+    /// Plain floating point.
+    fn plain(&self, rounds: u64) -> u64;
+    /// The exact Rust version.
+    fn exact(&self, rounds: u64) -> u64;
+}
 
 /// The best of several repetitions, in which the three take turns.
-pub fn times(section: &Timed, repetitions: u32) -> Times {
+pub fn times<V: Versions>(versions: &V, repetitions: u32) -> Times {
     let never = f64::INFINITY;
     let mut best = Times {
         library: never,
@@ -27,14 +39,42 @@ pub fn times(section: &Timed, repetitions: u32) -> Times {
         exact: never,
     };
     for _ in 0..repetitions {
+        let library = time(V::FAST_ROUNDS, |rounds| versions.library(rounds));
+        let plain = time(V::FAST_ROUNDS, |rounds| versions.plain(rounds));
+        let exact = time(V::EXACT_ROUNDS, |rounds| versions.exact(rounds));
         best = Times {
-            library: best
-                .library
-                .min(time(ROUNDS, |rounds| section.library(rounds))),
-            plain: best.plain.min(time(ROUNDS, |rounds| section.plain(rounds))),
-            exact: best
-                .exact
-                .min(time(PRESSURES, |rounds| section.exact(rounds))),
+            library: best.library.min(library),
+            plain: best.plain.min(plain),
+            exact: best.exact.min(exact),
+        };
+    }
+    best
+}
+
+/// Nanoseconds per round of two versions.
+#[derive(Clone, Copy, Debug, PartialEq)]
+pub struct Pair {
+    /// The proved library.
+    pub library: f64,
+    /// The Rust version.
+    pub rust: f64,
+}
+
+/// The best of several repetitions, in which the two take turns.
+pub fn pair(
+    repetitions: u32,
+    rounds: u64,
+    mut library: impl FnMut(u64) -> u64,
+    mut rust: impl FnMut(u64) -> u64,
+) -> Pair {
+    let mut best = Pair {
+        library: f64::INFINITY,
+        rust: f64::INFINITY,
+    };
+    for _ in 0..repetitions {
+        best = Pair {
+            library: best.library.min(time(rounds, &mut library)),
+            rust: best.rust.min(time(rounds, &mut rust)),
         };
     }
     best
@@ -63,15 +103,18 @@ pub fn worst(all: &[Times]) -> Times {
     *all.iter().max_by(slower).expect("a section")
 }
 
-/// The table's first line.
-pub fn head() -> String {
+/// Width of a line's name.
+const NAME: usize = 40;
+
+/// The first line of a table of three versions.
+pub fn head(what: &str) -> String {
     format!(
-        "{:<28} {:>10} {:>10} {:>10} {:>12} {:>13}",
-        "ns per section force", "library", "f64", "exact", "library/f64", "exact/library"
+        "{what:<NAME$} {:>10} {:>10} {:>10} {:>12} {:>13}",
+        "library", "f64", "exact", "library/f64", "exact/library"
     )
 }
 
-/// One line of the table.
+/// One line of it.
 pub fn line(name: &str, times: Times) -> String {
     let Times {
         library,
@@ -79,8 +122,25 @@ pub fn line(name: &str, times: Times) -> String {
         exact,
     } = times;
     format!(
-        "{name:<28} {library:>10.1} {plain:>10.1} {exact:>10.1} {:>12.2} {:>13.1}",
+        "{name:<NAME$} {library:>10.1} {plain:>10.1} {exact:>10.1} {:>12.2} {:>13.1}",
         library / plain,
         exact / library
+    )
+}
+
+/// The first line of a table of two versions.
+pub fn pair_head(what: &str) -> String {
+    format!(
+        "{what:<NAME$} {:>10} {:>10} {:>13}",
+        "library", "Rust", "library/Rust"
+    )
+}
+
+/// One line of it.
+pub fn pair_line(name: &str, pair: Pair) -> String {
+    let Pair { library, rust } = pair;
+    format!(
+        "{name:<NAME$} {library:>10.1} {rust:>10.1} {:>13.2}",
+        library / rust
     )
 }

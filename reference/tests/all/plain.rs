@@ -1,9 +1,13 @@
 //! The plain floating-point version beside the exact one.
 
 use reference::cases::{all, Case};
-use reference::plain::{direction_share, force, whole_force};
+use reference::draw::{self, Random};
+use reference::file::{read, write};
+use reference::plain::{self, direction_share, force, whole_force};
 use reference::rational::Rational;
-use reference::tower::{Legs, Section, Wind};
+use reference::report::rows;
+use reference::rules::judge_pressures;
+use reference::tower::{Legs, Section, Tower, Wind};
 use std::cmp::Ordering;
 
 /// A plain version on the case; it takes the items' sum in m².
@@ -48,6 +52,46 @@ fn the_plain_force_is_off_by_one_at_times() {
     }
     // README.md states these numbers
     assert_eq!((above, below), (18, 2));
+}
+
+/// Areas, items, shears and moments are those of the exact rows wherever each
+/// force is.
+#[test]
+fn the_plain_rows_add_up_as_the_exact_ones() {
+    let mut random = Random(0x5eed_0602);
+    let mut same = 0;
+    for _ in 0..300 {
+        let tower = draw::small_tower(&mut random, 8);
+        let direction = draw::direction(&mut random, tower.legs);
+        let ice_class = draw::ice_class(&mut random);
+        let wind = draw::wind(&mut random, &tower, direction, ice_class);
+        if read(&write(&tower)).is_err() || is_too_solid(&tower, ice_class) {
+            continue;
+        }
+        let (plain, exact) = (plain::rows(&tower, &wind), rows(&tower, &wind));
+        assert_eq!(plain.len(), exact.len());
+        let mut pairs = plain.iter().zip(&exact);
+        assert!(pairs
+            .clone()
+            .all(|(plain, exact)| plain.areas == exact.areas));
+        if pairs
+            .clone()
+            .all(|(plain, exact)| plain.force as u64 == exact.force.0)
+        {
+            assert!(
+                pairs.all(|(plain, exact)| plain.shear as u64 == exact.shear.0
+                    && plain.moment as u64 == exact.moment.0)
+            );
+            same += 1;
+        }
+    }
+    assert!(same >= 150, "{same}");
+}
+
+/// Under this ice.
+fn is_too_solid(tower: &Tower, ice_class: u32) -> bool {
+    let pressures = vec![0; tower.sections.len()];
+    judge_pressures(tower, ice_class, &pressures).is_err()
 }
 
 /// (1 - cos 4θ)/2 for the square and (1 - cos 3θ)/2 for the triangle have the

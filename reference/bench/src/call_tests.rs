@@ -1,0 +1,162 @@
+//! Tests of the timed towers and their calls, with the library linked.
+
+use crate::calls::{mast, timed_calls, timed_towers, with_room, Call, TimedTower};
+use crate::library::{self, Windy};
+use crate::timing::Versions;
+use crate::towers::{self, Rounds};
+use reference::draw::{self, Random};
+use reference::file::{read, write};
+use reference::report::{rows, ROW};
+use reference::sample::{item, sample_wind};
+use reference::tower::{Tower, Wind};
+
+/// Rows with and without supercritical members.
+fn supercritical(tower: &Tower, wind: &Wind) -> (usize, usize) {
+    let all = rows(tower, wind);
+    let with = all.iter().filter(|row| row.areas.supercritical.0 > 0);
+    let with = with.count();
+    (with, all.len() - with)
+}
+
+#[test]
+fn the_largest_towers_have_as_much_of_all_as_may_be() {
+    for (rounds, wanted) in [(Rounds::Thick, (32, 0)), (Rounds::Thin, (0, 32))] {
+        let tower = towers::largest(rounds);
+        assert_eq!(write(&tower).len(), 2_915);
+        assert!(tower
+            .sections
+            .iter()
+            .all(|section| section.groups.len() == 8));
+        let on = |section| {
+            tower
+                .items
+                .iter()
+                .filter(move |item| item.section == section)
+        };
+        assert!((0..32).all(|section| on(section).count() == 2));
+        assert_eq!(supercritical(&tower, &towers::wind(&tower)), wanted);
+    }
+    assert_eq!(with_room().file().len(), 2_915 - 13);
+    assert_eq!(mast().sections(), 12);
+}
+
+/// Towers of up to eight sections without ice.
+fn drawn() -> Vec<TimedTower> {
+    let mut random = Random(0x5eed_0601);
+    let mut accepted = Vec::new();
+    while accepted.len() < 200 {
+        let tower = draw::small_tower(&mut random, 8);
+        if read(&write(&tower)).is_ok() {
+            let direction = draw::direction(&mut random, tower.legs);
+            let wind = draw::wind(&mut random, &tower, direction, 0);
+            accepted.push(TimedTower::new("drawn", tower, wind));
+        }
+    }
+    accepted
+}
+
+#[test]
+fn the_reports_are_the_same_and_the_plain_one_is_near() {
+    for timed in timed_towers().iter().chain(&drawn()) {
+        assert_eq!(timed.difference(), None);
+    }
+}
+
+#[test]
+fn every_report_is_accepted_in_each_version() {
+    for timed in [timed_towers().remove(0), mast()] {
+        for rounds in [0, 1, 2, 5] {
+            assert_eq!(timed.library(rounds), rounds);
+            assert_eq!(timed.plain(rounds), rounds);
+            assert_eq!(timed.exact(rounds), rounds);
+        }
+    }
+}
+
+#[test]
+fn the_library_leaves_the_numbers_beyond_the_rows_and_all_after_a_refusal() {
+    let tower = towers::tower(Rounds::Thick, 3, 5);
+    let (file, wind) = (write(&tower), towers::wind(&tower));
+    let windy = Windy {
+        file: &file,
+        wind: &wind,
+    };
+    let numbers: Vec<u64> = rows(&tower, &wind)
+        .iter()
+        .flat_map(|row| row.numbers())
+        .collect();
+    for rounds in [1, 2, 7] {
+        let mut lent = vec![9; 3 * ROW + 4];
+        assert_eq!(library::report(&windy, rounds, &mut lent), rounds);
+        assert_eq!(lent, [&numbers[..], &[9; 4]].concat());
+    }
+    let still = Wind {
+        pressures: vec![1_000; 2],
+        ..wind.clone()
+    };
+    let cut = &file[..file.len() - 1];
+    let refused = [
+        (&file[..], &wind, 17),
+        (&file, &still, 22),
+        (cut, &wind, 22),
+    ];
+    for (file, wind, room) in refused {
+        let mut lent = vec![9; room];
+        assert_eq!(library::report(&Windy { file, wind }, 3, &mut lent), 0);
+        assert_eq!(lent, vec![9; room]);
+    }
+    assert_eq!(library::report(&windy, 0, &mut [9; 22]), 0);
+}
+
+#[test]
+fn the_timed_calls_are_all_accepted() {
+    for (call, on) in timed_calls() {
+        assert_eq!(call.difference(&on), None);
+        for rounds in [0, 1, 2_500] {
+            let all = rounds * call.in_round();
+            assert_eq!(call.library(&on, rounds), all, "{}", call.name(&on));
+            assert_eq!(call.rust(&on, rounds), all, "{}", call.name(&on));
+        }
+    }
+}
+
+/// 64 items leave no room for a dish; an item with a dish's number is taken down
+/// for it.
+#[test]
+fn the_versions_count_the_same_calls_where_some_are_turned_down() {
+    let full = timed_towers().remove(0);
+    assert_eq!(Call::Hang.library(&full, 10), 0);
+    assert_eq!(Call::Hang.rust(&full, 10), 0);
+    let tower = Tower {
+        items: vec![item(3), item(4), item(1_007)],
+        ..towers::tower(Rounds::Thin, 2, 0)
+    };
+    let wind = sample_wind(&tower, 0, 0);
+    let numbered = TimedTower::new("numbered", tower, wind);
+    for (rounds, accepted) in [(3, 6), (4, 7), (5, 8), (6, 10), (1_005, 2_008)] {
+        assert_eq!(Call::Hang.library(&numbered, rounds), accepted);
+        assert_eq!(Call::Hang.rust(&numbered, rounds), accepted);
+    }
+    let file = write(&towers::tower(Rounds::Thin, 2, 0));
+    let windy = Windy {
+        file: &file[..9],
+        wind: &towers::wind(&towers::tower(Rounds::Thin, 2, 0)),
+    };
+    assert_eq!(library::erect(&windy, 5), 0);
+    assert_eq!(library::hang(&windy, 5), 0);
+}
+
+#[test]
+fn the_calls_have_names() {
+    let names: Vec<String> = timed_calls()
+        .iter()
+        .map(|(call, on)| call.name(on))
+        .collect();
+    let wanted = [
+        "hang, take down: 32 sections, 63 items",
+        "erect: 2915 bytes",
+        "hang, take down: 12 sections, 8 items",
+        "erect: 887 bytes",
+    ];
+    assert_eq!(names, wanted);
+}

@@ -1,0 +1,277 @@
+//! The calls on a tower under a wind, in the library and in Rust.
+
+use crate::library::{self, Windy};
+use crate::timing::{pair, Pair, Versions};
+use crate::towers::{self, dish, Rounds, SECTIONS};
+use reference::file::write;
+use reference::plain;
+use reference::report::{rows, Row, ROW};
+use reference::service::Service;
+use reference::tower::{Tower, Wind, MOST_ITEMS};
+use std::hint::black_box;
+
+/// A tower under a wind, whose calls are timed.
+pub struct TimedTower {
+    /// What it is.
+    pub name: &'static str,
+    file: Vec<u8>,
+    tower: Tower,
+    wind: Wind,
+    service: Service,
+}
+
+impl TimedTower {
+    /// The tower is erected and the wind is set.
+    pub fn new(name: &'static str, tower: Tower, wind: Wind) -> TimedTower {
+        let file = write(&tower);
+        let mut service = Service::fresh();
+        service.erect(&file).expect("a tower that is accepted");
+        service
+            .wind(
+                wind.direction,
+                wind.ice_class,
+                wind.structure_factor,
+                &wind.pressures,
+            )
+            .expect("a wind that is accepted");
+        TimedTower {
+            name,
+            file,
+            tower,
+            wind,
+            service,
+        }
+    }
+
+    /// The tower file.
+    pub fn file(&self) -> &[u8] {
+        &self.file
+    }
+
+    /// The wind.
+    pub fn wind(&self) -> &Wind {
+        &self.wind
+    }
+
+    /// How many sections it has.
+    pub fn sections(&self) -> usize {
+        self.tower.sections.len()
+    }
+
+    /// What the library is given.
+    fn windy(&self) -> Windy<'_> {
+        Windy {
+            file: black_box(&self.file),
+            wind: &self.wind,
+        }
+    }
+
+    /// How many numbers a report has.
+    fn room(&self) -> usize {
+        ROW * self.sections()
+    }
+
+    /// The exact report.
+    pub fn exact_numbers(&self) -> Vec<u64> {
+        let mut lent = vec![0; self.room()];
+        self.service.report(&mut lent).expect("a report");
+        lent
+    }
+
+    /// Says where the reports of the library and of the exact version differ, if
+    /// they do, or where the plain one is not near them.
+    pub fn difference(&self) -> Option<String> {
+        let exact = self.exact_numbers();
+        let mut lent = vec![0; self.room()];
+        let accepted = library::report(&self.windy(), 1, &mut lent);
+        let place = lent.iter().zip(&exact).position(|(l, r)| l != r);
+        let far = self.far_off();
+        let differs = if accepted != 1 {
+            "the library turns the report down".to_string()
+        } else if let Some(place) = place {
+            format!("the reports differ from number {place} on")
+        } else {
+            format!("the plain row {} is not near the exact one", far?)
+        };
+        Some(format!("{}: {differs}", self.name))
+    }
+
+    /// The first row of the plain version with other areas, or with a force that
+    /// is more than 1 N off, or a shear or a moment that is further off than that
+    /// allows.
+    fn far_off(&self) -> Option<usize> {
+        let exact = rows(&self.tower, &self.wind);
+        let plain = plain::rows(&self.tower, &self.wind);
+        let (mut newtons, mut arms) = (0.0, 0.0);
+        let mut is_near = |(place, (plain, exact)): (usize, (&plain::Row, &Row))| {
+            let height = f64::from(self.tower.sections[place].height.0);
+            arms += newtons * height + height / 2.0;
+            newtons += 1.0;
+            plain.areas == exact.areas
+                && (plain.force - exact.force.0 as f64).abs() <= 1.0
+                && (plain.shear - exact.shear.0 as f64).abs() <= newtons
+                && (plain.moment - exact.moment.0 as f64).abs() <= arms
+        };
+        plain
+            .iter()
+            .zip(&exact)
+            .enumerate()
+            .position(|row| !is_near(row))
+    }
+}
+
+/// Those whose reports are timed, the two largest first.
+pub fn timed_towers() -> Vec<TimedTower> {
+    let bare = |name, tower: Tower| {
+        let wind = towers::wind(&tower);
+        TimedTower::new(name, tower, wind)
+    };
+    let iced = towers::largest(Rounds::Thin);
+    let ice = Wind {
+        ice_class: 1,
+        ..towers::wind(&iced)
+    };
+    vec![
+        bare("largest, supercritical", towers::largest(Rounds::Thick)),
+        bare("largest, no supercritical", towers::largest(Rounds::Thin)),
+        TimedTower::new("largest, iced", iced, ice),
+        mast(),
+    ]
+}
+
+/// A mast of a dozen sections with eight items.
+pub fn mast() -> TimedTower {
+    let tower = towers::tower(Rounds::Thick, 12, 8);
+    let wind = towers::wind(&tower);
+    TimedTower::new("12 sections, 8 items", tower, wind)
+}
+
+/// The largest tower, but one item less, so that one more can be hung.
+pub fn with_room() -> TimedTower {
+    let tower = towers::tower(Rounds::Thick, SECTIONS, MOST_ITEMS - 1);
+    let wind = towers::wind(&tower);
+    TimedTower::new("32 sections, 63 items", tower, wind)
+}
+
+/// Reports.
+impl Versions for TimedTower {
+    const FAST_ROUNDS: u64 = 400;
+    const EXACT_ROUNDS: u64 = 2;
+
+    fn library(&self, rounds: u64) -> u64 {
+        let mut lent = vec![0; self.room()];
+        let accepted = library::report(&self.windy(), rounds, &mut lent);
+        assert_eq!(accepted, rounds, "{}", self.name);
+        black_box(lent);
+        accepted
+    }
+
+    fn plain(&self, rounds: u64) -> u64 {
+        for _ in 0..rounds {
+            black_box(plain::rows(black_box(&self.tower), black_box(&self.wind)));
+        }
+        rounds
+    }
+
+    fn exact(&self, rounds: u64) -> u64 {
+        let mut lent = vec![0; self.room()];
+        let report = |_: &u64| {
+            black_box(&self.service)
+                .report(black_box(&mut lent))
+                .is_ok()
+        };
+        (0..rounds).filter(report).count() as u64
+    }
+}
+
+/// A call that is timed in two versions.
+#[derive(Clone, Copy, Debug, PartialEq, Eq)]
+pub enum Call {
+    /// A dish hung, then taken down: two calls a round.
+    Hang,
+    /// The file erected.
+    Erect,
+}
+
+impl Call {
+    /// The name of its line in the table.
+    pub fn name(self, timed: &TimedTower) -> String {
+        match self {
+            Call::Hang => format!("hang, take down: {}", timed.name),
+            Call::Erect => format!("erect: {} bytes", timed.file.len()),
+        }
+    }
+
+    /// Calls in a round.
+    pub fn in_round(self) -> u64 {
+        match self {
+            Call::Hang => 2,
+            Call::Erect => 1,
+        }
+    }
+
+    /// Rounds in each repetition.
+    fn rounds(self) -> u64 {
+        match self {
+            Call::Hang => 5_000,
+            Call::Erect => 1_000,
+        }
+    }
+
+    /// Nanoseconds a call.
+    pub fn times(self, timed: &TimedTower, repetitions: u32) -> Pair {
+        let calls = self.in_round() as f64;
+        let library = |rounds| self.library(timed, rounds);
+        let rust = |rounds| self.rust(timed, rounds);
+        let times = pair(repetitions, self.rounds(), library, rust);
+        Pair {
+            library: times.library / calls,
+            rust: times.rust / calls,
+        }
+    }
+
+    /// So many rounds of the library, and how many calls are accepted.
+    pub fn library(self, timed: &TimedTower, rounds: u64) -> u64 {
+        let call = match self {
+            Call::Hang => library::hang,
+            Call::Erect => library::erect,
+        };
+        call(&timed.windy(), rounds)
+    }
+
+    /// The same in the Rust version.
+    pub fn rust(self, timed: &TimedTower, rounds: u64) -> u64 {
+        let mut service = timed.service.clone();
+        let accepted = |round: u64| match self {
+            Call::Hang => {
+                let dish = black_box(dish(round));
+                let hung = service.hang(dish).is_ok();
+                let taken = black_box(&mut service).take_down(dish.number).is_ok();
+                u64::from(hung) + u64::from(taken)
+            }
+            Call::Erect => u64::from(service.erect(black_box(&timed.file)).is_ok()),
+        };
+        (0..rounds).map(accepted).sum()
+    }
+
+    /// Says how the numbers of accepted calls differ, if they do.
+    pub fn difference(self, timed: &TimedTower) -> Option<String> {
+        let all = 3 * self.in_round();
+        let (library, rust) = (self.library(timed, 3), self.rust(timed, 3));
+        let name = self.name(timed);
+        let differ =
+            || format!("{name}: of {all} calls the library accepts {library}, Rust {rust}");
+        ((library, rust) != (all, all)).then(differ)
+    }
+}
+
+/// Those that are timed in two versions, the two on largest towers first.
+pub fn timed_calls() -> Vec<(Call, TimedTower)> {
+    let largest = timed_towers().remove(0);
+    vec![
+        (Call::Hang, with_room()),
+        (Call::Erect, largest),
+        (Call::Hang, mast()),
+        (Call::Erect, mast()),
+    ]
+}
