@@ -43,6 +43,12 @@ impl TimedTower {
         }
     }
 
+    /// The same under the bare wind of the timed towers.
+    fn bare(name: &'static str, tower: Tower) -> TimedTower {
+        let wind = towers::wind(&tower);
+        TimedTower::new(name, tower, wind)
+    }
+
     /// The tower file.
     pub fn file(&self) -> &[u8] {
         &self.file
@@ -122,35 +128,28 @@ impl TimedTower {
 
 /// Those whose reports are timed, the two largest first.
 pub fn timed_towers() -> Vec<TimedTower> {
-    let bare = |name, tower: Tower| {
-        let wind = towers::wind(&tower);
-        TimedTower::new(name, tower, wind)
-    };
-    let iced = towers::largest(Rounds::Thin);
+    let [thick, thin] = [Rounds::Thick, Rounds::Thin].map(towers::largest);
     let ice = Wind {
         ice_class: 1,
-        ..towers::wind(&iced)
+        ..towers::wind(&thin)
     };
     vec![
-        bare("largest, supercritical", towers::largest(Rounds::Thick)),
-        bare("largest, no supercritical", towers::largest(Rounds::Thin)),
-        TimedTower::new("largest, iced", iced, ice),
+        TimedTower::bare("largest, supercritical", thick),
+        TimedTower::bare("largest, no supercritical", thin.clone()),
+        TimedTower::new("largest, iced", thin, ice),
         mast(),
     ]
 }
 
 /// A mast of a dozen sections with eight items.
 pub fn mast() -> TimedTower {
-    let tower = towers::tower(Rounds::Thick, 12, 8);
-    let wind = towers::wind(&tower);
-    TimedTower::new("12 sections, 8 items", tower, wind)
+    TimedTower::bare("12 sections, 8 items", towers::tower(Rounds::Thick, 12, 8))
 }
 
 /// The largest tower, but one item less, so that one more can be hung.
 pub fn with_room() -> TimedTower {
     let tower = towers::tower(Rounds::Thick, SECTIONS, MOST_ITEMS - 1);
-    let wind = towers::wind(&tower);
-    TimedTower::new("32 sections, 63 items", tower, wind)
+    TimedTower::bare("32 sections, 63 items", tower)
 }
 
 /// Reports.

@@ -22,6 +22,12 @@ struct Answers {
 /// Bytes that are read at once.
 const BUFFER: usize = 1 << 16;
 
+/// Where fewer bytes than these have come, the reader of a stream lets more gather
+/// for a while; else each answer of a few bytes would wake it, and that takes the
+/// service longer than the answer.
+const FEW: usize = 1_000;
+const WHILE: Duration = Duration::from_micros(100);
+
 /// Starts the program, lets `work` talk to it, ends its input and waits for it. It
 /// has to end well, and to answer nothing more.
 pub fn with_service<T>(
@@ -56,7 +62,7 @@ impl Piped {
     pub fn ask(&mut self, request: &str, answer: &str) -> Result<(), String> {
         let sent = self.requests.write_all(request.as_bytes());
         sent.map_err(|error| error.to_string())?;
-        self.answers.read(answer.as_bytes(), 1)
+        self.answers.read(answer.as_bytes(), 1, Duration::ZERO)
     }
 
     /// Sends the requests so many times from a thread of its own and reads the
@@ -71,7 +77,7 @@ impl Piped {
         let start = Instant::now();
         thread::scope(|scope| {
             let writer = scope.spawn(|| (0..times).try_for_each(|_| requests.write_all(bytes)));
-            let read = answers.read(exchange.answers.as_bytes(), times);
+            let read = answers.read(exchange.answers.as_bytes(), times, WHILE);
             let elapsed = start.elapsed();
             if read.is_err() {
                 // so that the writer does not wait for a program that waits for us
@@ -113,8 +119,8 @@ impl Piped {
 }
 
 impl Answers {
-    /// Reads these, so many times.
-    fn read(&mut self, answers: &[u8], times: u64) -> Result<(), String> {
+    /// Reads these, so many times, with a pause where few bytes have come.
+    fn read(&mut self, answers: &[u8], times: u64, pause: Duration) -> Result<(), String> {
         let mut left = answers.len() as u64 * times;
         let mut place = 0;
         while left > 0 {
@@ -126,6 +132,9 @@ impl Answers {
             }
             place = compare(&self.buffer[..got], answers, place)?;
             left -= got as u64;
+            if got < FEW && left > 0 {
+                thread::sleep(pause);
+            }
         }
         Ok(())
     }

@@ -117,10 +117,10 @@ fn the_table_has_rates_and_times() {
 fn the_slowest_and_the_fastest_million_are_named() {
     let long = Long {
         millions: [1.5, 1.75, 1.25, 1.5].map(rate).to_vec(),
-        reports: [rate(9.0), rate(9.5)],
+        beside_fresh: [[rate(2.0), rate(2.5)], [rate(9.0), rate(9.5)]],
     };
     let seconds = long.named().map(|(_, rate)| rate.seconds);
-    assert_eq!(seconds, [1.75, 1.25, 9.0, 9.5]);
+    assert_eq!(seconds, [1.75, 1.25, 2.0, 2.5, 9.0, 9.5]);
     let width = head().len();
     for (name, rate) in long.named() {
         assert_eq!(line(name, rate).len(), width, "{name}");

@@ -6,14 +6,15 @@ use crate::requests::{erect, hang, hangings, reports, take_down, wind, Exchange,
 use crate::towers::dish;
 use std::time::{Duration, Instant};
 
-/// Requests of each stream of hangings.
+/// Requests of each stream of hangings and take-downs, and streams of them.
 const MILLION: u64 = 1_000_000;
-/// Turns of each stream, of which the best is shown.
-const TURNS: u32 = 3;
-/// Reports of each stream of them.
+const STREAMS: u32 = 3;
+/// Reports of each stream of them, and streams.
 const REPORTS: u64 = 2_000;
-/// Requests each of which waits for the last one's answer.
-const ROUND_TRIPS: u64 = 20_000;
+const REPORT_STREAMS: u32 = 15;
+/// Requests that wait for the last one's answer, and repetitions of them.
+const ROUND_TRIPS: u64 = 5_000;
+const REPETITIONS: u32 = 5;
 /// Millions of requests to one service.
 const MILLIONS: usize = 10;
 
@@ -27,6 +28,12 @@ pub struct Rate {
 }
 
 impl Rate {
+    /// Slower than any other.
+    const NEVER: Rate = Rate {
+        requests: 0,
+        seconds: f64::INFINITY,
+    };
+
     /// So many requests in this time.
     pub fn new(requests: u64, elapsed: Duration) -> Rate {
         Rate {
@@ -38,6 +45,15 @@ impl Rate {
     /// Requests a second.
     pub fn a_second(self) -> f64 {
         self.requests as f64 / self.seconds
+    }
+
+    /// The one that took less time, for as many requests.
+    fn faster(self, other: Rate) -> Rate {
+        if other.seconds < self.seconds {
+            other
+        } else {
+            self
+        }
     }
 
     /// Microseconds a request.
@@ -54,14 +70,40 @@ fn set_up(piped: &mut Piped, timed: &TimedTower) -> Result<(), String> {
     piped.ask(&report.requests, &report.answers)
 }
 
-/// The best of several streams of so many requests at least.
-fn best_stream(piped: &mut Piped, exchange: &Exchange, requests: u64) -> Result<Rate, String> {
+/// A stream of so many requests at least.
+fn stream(piped: &mut Piped, exchange: &Exchange, requests: u64) -> Result<Rate, String> {
     let times = requests.div_ceil(exchange.count);
-    let mut best = Duration::MAX;
-    for _ in 0..TURNS {
-        best = best.min(piped.stream(exchange, times)?);
+    let elapsed = piped.stream(exchange, times)?;
+    Ok(Rate::new(times * exchange.count, elapsed))
+}
+
+/// The best of some streams to each service, which take turns.
+fn by_turns<const N: usize>(
+    services: &mut [&mut Piped; N],
+    exchange: &Exchange,
+    requests: u64,
+    streams: u32,
+) -> Result<[Rate; N], String> {
+    let mut best = [Rate::NEVER; N];
+    for _ in 0..streams {
+        for (piped, best) in services.iter_mut().zip(&mut best) {
+            *best = best.faster(stream(piped, exchange, requests)?);
+        }
     }
-    Ok(Rate::new(times * exchange.count, best))
+    Ok(best)
+}
+
+/// The rates of both kinds of streams to each service.
+fn both_by_turns<const N: usize>(
+    mut services: [&mut Piped; N],
+    timed: &TimedTower,
+) -> Result<[[Rate; N]; 2], String> {
+    let hangings = hangings(timed.sections());
+    let reports = reports(timed, 100);
+    Ok([
+        by_turns(&mut services, &hangings, MILLION, STREAMS)?,
+        by_turns(&mut services, &reports, REPORTS, REPORT_STREAMS)?,
+    ])
 }
 
 /// Each request waits for the last one's answer.
@@ -79,12 +121,15 @@ fn round_trips(piped: &mut Piped) -> Result<Rate, String> {
 pub fn on_tower(program: &str, timed: &TimedTower) -> Result<[(&'static str, Rate); 3], String> {
     with_service(program, |piped| {
         set_up(piped, timed)?;
-        let hangings = best_stream(piped, &hangings(timed.sections()), MILLION)?;
-        let reports = best_stream(piped, &reports(timed, 100), REPORTS)?;
+        let [[hangings], [reports]] = both_by_turns([piped], timed)?;
+        let mut trips = Rate::NEVER;
+        for _ in 0..REPETITIONS {
+            trips = trips.faster(round_trips(piped)?);
+        }
         Ok([
             ("hang, take down", hangings),
             ("report", reports),
-            ("round trip", round_trips(piped)?),
+            ("round trip", trips),
         ])
     })
 }
@@ -93,12 +138,13 @@ pub fn on_tower(program: &str, timed: &TimedTower) -> Result<[(&'static str, Rat
 pub struct Long {
     /// Each million of them.
     pub millions: Vec<Rate>,
-    /// Reports before the first and after the last.
-    pub reports: [Rate; 2],
+    /// Hangings and take-downs, and reports: of a fresh service, and of this one
+    /// after the last million.
+    pub beside_fresh: [[Rate; 2]; 2],
 }
 
-/// Ten million hangings and take-downs, and a report with the same text before and
-/// after them. `each` is told of each million.
+/// The text of the report is the same before the first one, after the last one and
+/// on the fresh service. `each` is told of each million.
 pub fn long(
     program: &str,
     timed: &TimedTower,
@@ -106,35 +152,38 @@ pub fn long(
 ) -> Result<Long, String> {
     with_service(program, |piped| {
         set_up(piped, timed)?;
-        let (hangings, reports) = (hangings(timed.sections()), reports(timed, 100));
-        let times = MILLION.div_ceil(hangings.count);
-        let before = best_stream(piped, &reports, REPORTS)?;
+        let hangings = hangings(timed.sections());
         let mut millions = Vec::new();
         for place in 1..=MILLIONS {
-            let elapsed = piped.stream(&hangings, times)?;
-            let rate = Rate::new(times * hangings.count, elapsed);
+            let rate = stream(piped, &hangings, MILLION)?;
             each(place, rate);
             millions.push(rate);
         }
-        let after = best_stream(piped, &reports, REPORTS)?;
+        let beside_fresh = with_service(program, |fresh| {
+            set_up(fresh, timed)?;
+            both_by_turns([fresh, piped], timed)
+        })?;
         Ok(Long {
             millions,
-            reports: [before, after],
+            beside_fresh,
         })
     })
 }
 
 impl Long {
-    /// The slowest and the fastest million and the reports, with their names.
-    pub fn named(&self) -> [(&'static str, Rate); 4] {
+    /// All but the millions in between, with their names.
+    pub fn named(&self) -> [(&'static str, Rate); 6] {
         let order = |left: &&Rate, right: &&Rate| left.seconds.total_cmp(&right.seconds);
         let slowest = self.millions.iter().max_by(order).expect("a million");
         let fastest = self.millions.iter().min_by(order).expect("a million");
+        let [hangings, reports] = self.beside_fresh;
         [
-            ("10 million hang, take down: slowest million", *slowest),
-            ("10 million hang, take down: fastest million", *fastest),
-            ("report before the 10 million", self.reports[0]),
-            ("report after the 10 million", self.reports[1]),
+            ("slowest million of ten", *slowest),
+            ("fastest million of ten", *fastest),
+            ("fresh service: hang, take down", hangings[0]),
+            ("after ten million: hang, take down", hangings[1]),
+            ("fresh service: report", reports[0]),
+            ("after ten million: report", reports[1]),
         ]
     }
 }

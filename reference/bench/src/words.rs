@@ -22,11 +22,12 @@ with 63 items hung, and per erect, of the library and of the Rust version.
 pipe: starts the service program and prints how many requests a second it answers
 through a pipe: hangings and take-downs, reports, and round trips, each of which
 waits for the last answer; then ten million hangings and take-downs on one
-service, with reports before and after them. Every answer is compared.
+service, the slowest and the fastest million of them, and its rates after them
+beside those of a fresh service. Every answer is compared.
 
-Without one of the four words all. All figures are the best of several
-repetitions in one run, those of round trips and millions alone are not. Status 1
-if a number, a byte or an answer differs.
+Without one of the four words all. All figures but those of the ten million are
+the best of several repetitions in one run. Status 1 if a number, a byte or an
+answer differs.
 
   --each            also print a line for each section, for smaller files and
                     towers, and for each million
