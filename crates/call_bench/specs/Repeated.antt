@@ -53,7 +53,7 @@ erectRound file i = erect file ∷ []
 abbrev pub Counted : State → List Call → ℕ → Type 0
 Counted m cs r = r ≡ acceptedIn m cs % 2 ^ 64
 
--- a report into the slice that the last one left holds what the first one left
+-- each report is lent what the last one left, and leaves what the first one left
 pub record Reported (m : State) (rounds : ℕ) (before after : List ℕ) (r : ℕ) : Type 0 where
   pub answer : Counted m (inRounds (reportRound before) rounds) r
   pub rows : after ≡ cond (eqb rounds 0) before (lentAfter m (report before))

@@ -1,7 +1,6 @@
 use Prim.Native.Nat.{_-_, _≤_}
 use mathlib.Core.Path.{_≡_}
 use native.Mathlib.Omega.{arith}
-use Rattle.model.specs.Calls.{erect}
 use Rattle.service.specs.Promises.{windAsked}
 use borrow.Author.Needs.{needs}
 use Rattle.call_bench.specs.Repeated.{windy, inRounds, erectRound}
