@@ -52,11 +52,11 @@ enum dembyhai_number {
 
 /*
  * Document 01's 22 refusals. The call answers 0, 2 to 13, 15 to 20 or 22; the
- * others belong to a service that keeps its tower.
+ * others belong to the service, which keeps its tower (`refused N` of towerd).
  */
 enum dembyhai_refusal {
     DEMBYHAI_ACCEPTED = 0,            /* no refusal: the rows are filled */
-    DEMBYHAI_NO_TOWER = 1,            /* never answered here */
+    DEMBYHAI_NO_TOWER = 1,            /* the service: no tower stands */
     DEMBYHAI_FILE_ENDS = 2,           /* the file ends inside or before a field */
     DEMBYHAI_LEGS = 3,                /* legs are neither 3 nor 4 */
     DEMBYHAI_SECTION_COUNT = 4,       /* section count is 0 or above 32 */
@@ -64,20 +64,20 @@ enum dembyhai_refusal {
     DEMBYHAI_GROUP_COUNT = 6,         /* group count is 0 or above 8 */
     DEMBYHAI_GROUP_FIELD = 7,         /* a group's kind, width or length breaks its range */
     DEMBYHAI_BARE_FACE_OVERFULL = 8,  /* a section's bare solid area A_S is above its gross face A_u */
-    DEMBYHAI_ITEM_COUNT = 9,          /* item count is above 64 */
-    DEMBYHAI_ITEM_NUMBER = 10,        /* an item number came earlier in the file */
+    DEMBYHAI_ITEM_COUNT = 9,          /* item count is above 64; the service: 64 items hang already */
+    DEMBYHAI_ITEM_NUMBER = 10,        /* an item number came earlier in the file; the service: it hangs already */
     DEMBYHAI_ITEM_SECTION = 11,       /* an item's section does not exist */
     DEMBYHAI_ITEM_FIELD = 12,         /* another item field breaks its range */
     DEMBYHAI_BYTES_FOLLOW = 13,       /* bytes follow the last item, or the item count if that is 0 */
-    DEMBYHAI_NO_SUCH_ITEM = 14,       /* never answered here */
+    DEMBYHAI_NO_SUCH_ITEM = 14,       /* the service: no item of this number hangs */
     DEMBYHAI_DIRECTION = 15,          /* k is above 23, or odd with three legs */
     DEMBYHAI_ICE_CLASS = 16,          /* ice class is above 5 */
     DEMBYHAI_STRUCTURE_FACTOR = 17,   /* the structure factor is not 500 to 2 000 thousandths */
     DEMBYHAI_PRESSURE_COUNT = 18,     /* pressures are not 2 bytes per section */
     DEMBYHAI_PRESSURE = 19,           /* a pressure is above 5 000 N/m2 */
     DEMBYHAI_ICED_FACE_OVERFULL = 20, /* some section's A_S under this ice is above its A_u */
-    DEMBYHAI_NO_WIND = 21,            /* never answered here */
-    DEMBYHAI_ROWS_SHORT = 22          /* rows has fewer than 48 bytes per section */
+    DEMBYHAI_NO_WIND = 21,            /* the service: no wind is set */
+    DEMBYHAI_ROWS_SHORT = 22          /* rows has fewer than 48 bytes per section; the service: too little room */
 };
 
 /*
