@@ -15,6 +15,7 @@ pub mod file;
 pub mod file_cases;
 pub mod force;
 pub mod host;
+pub mod lists;
 pub mod natural;
 pub mod outputs;
 pub mod plain;

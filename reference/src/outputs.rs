@@ -1,6 +1,6 @@
 //! The table of expected outputs, one entry per program crate.
 
-use crate::{cases, file_cases, request_lists, transcript};
+use crate::{cases, file_cases, lists, request_lists, transcript};
 
 /// One file of a program's folder.
 #[derive(Clone, Debug, PartialEq, Eq)]
@@ -37,5 +37,9 @@ pub const GENERATORS: &[Generator] = &[
     Generator {
         program: "samples",
         files: transcript::files,
+    },
+    Generator {
+        program: "lists",
+        files: lists::files,
     },
 ];

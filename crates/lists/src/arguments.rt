@@ -1,0 +1,114 @@
+// Drawn arguments of calls, most of which suit the tower that stands.
+use crate::draws::Draws;
+use crate::draws::bits;
+use crate::draws::field;
+use crate::draws::is_wrong;
+use crate::draws::once_in;
+use crate::draws::part;
+use crate::draws::short;
+use crate::draws::within;
+use crate::sections::FLOW_LIMITS;
+use model::Legs;
+use model::ranges::DIRECTIONS;
+use model::ranges::ICE_CLASSES;
+use model::ranges::PRESSURES;
+
+// What the next call is.
+pub enum Kind {
+    ErectSound,
+    ErectDamaged,
+    Hang,
+    TakeDown,
+    Wind,
+    Report,
+    Check,
+    Write,
+}
+
+// The kind of the call with this number of 100.
+fn kind_at(n: u64) -> Kind {
+    match n {
+        0..=2 => Kind::ErectSound,
+        3..=10 => Kind::ErectDamaged,
+        11..=34 => Kind::Hang,
+        35..=49 => Kind::TakeDown,
+        50..=63 => Kind::Wind,
+        64..=79 => Kind::Report,
+        80..=89 => Kind::Check,
+        _ => Kind::Write,
+    }
+}
+
+// What is missing, a tower or a wind, comes more often.
+pub fn kind_of(key: u64, standing: bool, windy: bool) -> Kind {
+    let soon = once_in(key, 0, 3);
+    if soon && !standing {
+        return Kind::ErectSound;
+    }
+    if soon && !windy {
+        return Kind::Wind;
+    }
+    kind_at(within(key, 1, 0, 99))
+}
+
+// The number of an item.
+pub fn any_number(key: u64) -> u64 {
+    within(key, 0, 0, 40)
+}
+
+// With three legs an odd one is wrong too.
+pub fn direction(d: Draws, legs: Legs) -> u64 {
+    let k = field(d, 0, DIRECTIONS);
+    if is_wrong(d, 6) {
+        return k;
+    }
+    match legs {
+        Legs::Three => k / 2 * 2,
+        Legs::Four => k,
+    }
+}
+
+pub fn ice_class(d: Draws) -> u64 {
+    if once_in(d.key, 1, 2) {
+        return 0;
+    }
+    field(d, 2, ICE_CLASSES)
+}
+
+// How many pressures, with so many sections.
+pub fn pressure_count(d: Draws, sections: u64) -> u64 {
+    if is_wrong(d, 4) {
+        return within(d.key, 4, 0, 33);
+    }
+    sections
+}
+
+// Any pressure, or one at a flow limit or just above it.
+fn pressure(d: Draws) -> u64 {
+    if once_in(d.key, 0, 4) {
+        let i = (bits(d.key, 1) % 6) as usize;
+        return std::num::wrapping_add_u64(FLOW_LIMITS[i], within(d.key, 2, 0, 1));
+    }
+    field(d, 3, PRESSURES)
+}
+
+pub fn store_pressures(pressures: &mut [u16], d: Draws) {
+    for i in 0usize..pressures.len() {
+        pressures[i] = short(pressure(part(d, i as u64)));
+    }
+}
+
+// As many elements as are needed, or some more or fewer.
+pub fn room(key: u64, needed: usize) -> usize {
+    let kind = within(key, 0, 0, 7);
+    if kind == 0 {
+        return std::num::wrapping_sub_usize(needed, 1);
+    }
+    if kind == 1 {
+        return (bits(key, 1) % (needed as u64 % 4096 + 1)) as usize;
+    }
+    if kind < 4 {
+        return std::num::wrapping_add_usize(needed, within(key, 1, 1, 20) as usize);
+    }
+    needed
+}

@@ -1,0 +1,95 @@
+//! Drawn lists of calls, sound and damaged, and a million hangings and
+//! take-downs on one tower: what the program `lists` prints.
+
+mod answers;
+mod calls;
+mod draws;
+mod files;
+mod million;
+
+use crate::file_cases::digest;
+use crate::outputs::OutputFile;
+use crate::service::Service;
+use crate::vectors::Call;
+use std::fmt::Write;
+
+pub use answers::{Answer, LENT_BYTE, LENT_NUMBER, NONE_OVER};
+pub use draws::{Draws, Key};
+pub use files::{sound_file, Size};
+pub use million::{million, Million, HUNG, NUMBERS};
+
+/// How many lists there are.
+pub const LISTS: u64 = 2_000;
+
+/// How many calls each of them has.
+pub const CALLS: u64 = 100;
+
+/// The answers are 0 and the 22 refusals.
+pub const ANSWERS: usize = 23;
+
+/// The key of all lists.
+const ALL_LISTS: Key = Key(1);
+
+/// How often each answer came.
+pub type Counts = [u64; ANSWERS];
+
+/// A call of a list, and what was answered.
+#[derive(Clone, Debug, PartialEq, Eq)]
+pub struct Step {
+    /// With its arguments.
+    pub call: Call,
+    /// On the service as it was then.
+    pub answer: Answer,
+}
+
+/// The calls of one list from a fresh service on. Each is drawn for the tower that
+/// stands then.
+pub fn list(place: u64) -> Vec<Step> {
+    let key = ALL_LISTS.part(place);
+    let size = Size::of(key);
+    let mut service = Service::fresh();
+    let step = |place| {
+        let call = calls::call(key.part(place), size, &service);
+        let answer = Answer::to(&call, &mut service);
+        Step { call, answer }
+    };
+    (0..CALLS).map(step).collect()
+}
+
+/// The digest of a list's answers and of all that it lent.
+pub fn list_digest(steps: &[Step]) -> u64 {
+    let values = |step: &Step| [step.answer.number.into(), step.answer.rest];
+    digest(steps.iter().flat_map(values))
+}
+
+/// What the program prints.
+pub fn text() -> String {
+    let mut text = String::new();
+    let mut counts = [0; ANSWERS];
+    for place in 0..LISTS {
+        let steps = list(place);
+        let accepted = steps.iter().filter(|step| step.answer.number == 0).count();
+        let digest = list_digest(&steps);
+        writeln!(text, "list {place}: accepted {accepted}, digest {digest}").expect("a string");
+        for step in &steps {
+            counts[step.answer.number as usize] += 1;
+        }
+    }
+    let answers: Vec<String> = (0..ANSWERS)
+        .map(|number| counted(&counts, number))
+        .collect();
+    text + "answers" + &answers.join(",") + "\n" + &million().text()
+}
+
+/// An answer's number, and how often it came.
+fn counted(counts: &Counts, number: usize) -> String {
+    format!(" {number}: {}", counts[number])
+}
+
+/// `stdout` of the program.
+pub fn files() -> Vec<OutputFile> {
+    vec![OutputFile {
+        name: "stdout",
+        bytes: text().into_bytes(),
+    }]
+}
