@@ -1,5 +1,5 @@
-//! Drawn lists of calls, sound and damaged, and a million hangings and
-//! take-downs on one tower: what the program `lists` prints.
+//! Drawn lists of calls, sound and damaged, and millions of hangings and take-downs
+//! on one tower: what the program `lists` prints.
 
 mod answers;
 mod calls;
@@ -11,7 +11,6 @@ use crate::file_cases::digest;
 use crate::outputs::OutputFile;
 use crate::service::Service;
 use crate::vectors::Call;
-use std::fmt::Write;
 
 pub use answers::{Answer, LENT_BYTE, LENT_NUMBER, NONE_OVER};
 pub use draws::{Draws, Key};
@@ -64,26 +63,32 @@ pub fn list_digest(steps: &[Step]) -> u64 {
 
 /// What the program prints.
 pub fn text() -> String {
-    let mut text = String::new();
+    let mut lines = String::new();
     let mut counts = [0; ANSWERS];
     for place in 0..LISTS {
         let steps = list(place);
-        let accepted = steps.iter().filter(|step| step.answer.number == 0).count();
-        let digest = list_digest(&steps);
-        writeln!(text, "list {place}: accepted {accepted}, digest {digest}").expect("a string");
+        let before = counts[0];
         for step in &steps {
             counts[step.answer.number as usize] += 1;
         }
+        let accepted = counts[0] - before;
+        lines += &line("list", [place, accepted, list_digest(&steps)]);
     }
-    let answers: Vec<String> = (0..ANSWERS)
-        .map(|number| counted(&counts, number))
-        .collect();
-    text + "answers" + &answers.join(",") + "\n" + &million().text()
+    lines + &counts_text("answer", &counts) + &million().text()
 }
 
-/// An answer's number, and how often it came.
-fn counted(counts: &Counts, number: usize) -> String {
-    format!(" {number}: {}", counts[number])
+/// A name, and numbers behind it.
+fn line(name: &str, numbers: impl IntoIterator<Item = u64>) -> String {
+    let words = numbers.into_iter().map(|number| format!(" {number}"));
+    format!("{name}{}\n", words.collect::<String>())
+}
+
+/// A line for each answer that came.
+fn counts_text(name: &str, counts: &Counts) -> String {
+    let counted = counts.iter().enumerate().filter(|(_, count)| **count > 0);
+    counted
+        .map(|(number, count)| line(name, [number as u64, *count]))
+        .collect()
 }
 
 /// `stdout` of the program.

@@ -1,4 +1,5 @@
 // Drawn arguments of calls, most of which suit the tower that stands.
+ghost use Prim.Native.Nat.{_≤_};
 use crate::draws::Draws;
 use crate::draws::bits;
 use crate::draws::field;
@@ -7,13 +8,15 @@ use crate::draws::once_in;
 use crate::draws::part;
 use crate::draws::short;
 use crate::draws::within;
+use crate::draws::word;
 use crate::sections::FLOW_LIMITS;
 use model::Legs;
 use model::ranges::DIRECTIONS;
 use model::ranges::ICE_CLASSES;
 use model::ranges::PRESSURES;
+use model::ranges::STRUCTURE_FACTOR;
 
-// What the next call is.
+// What a call is.
 pub enum Kind {
     ErectSound,
     ErectDamaged,
@@ -57,8 +60,8 @@ pub fn any_number(key: u64) -> u64 {
 }
 
 // With three legs an odd one is wrong too.
-pub fn direction(d: Draws, legs: Legs) -> u64 {
-    let k = field(d, 0, DIRECTIONS);
+pub fn direction(d: Draws, legs: Legs) -> u32 {
+    let k = word(field(d, 0, DIRECTIONS));
     if is_wrong(d, 6) {
         return k;
     }
@@ -68,19 +71,35 @@ pub fn direction(d: Draws, legs: Legs) -> u64 {
     }
 }
 
-pub fn ice_class(d: Draws) -> u64 {
+pub fn ice_class(d: Draws) -> u32 {
     if once_in(d.key, 1, 2) {
         return 0;
     }
-    field(d, 2, ICE_CLASSES)
+    word(field(d, 2, ICE_CLASSES))
 }
 
-// How many pressures, with so many sections.
-pub fn pressure_count(d: Draws, sections: u64) -> u64 {
-    if is_wrong(d, 4) {
-        return within(d.key, 4, 0, 33);
+pub fn structure_factor(d: Draws) -> u32 {
+    word(field(d, 3, STRUCTURE_FACTOR))
+}
+
+// No more than the most.
+pub fn up_to(n: u64, most: usize) -> usize
+    ensures { λ r. ⌜ r ≤ most ⌝ }
+{
+    if most as u64 <= n {
+        return most;
     }
-    sections
+    n as usize
+}
+
+// How many pressures there are, with so many sections.
+pub fn pressure_count(d: Draws, sections: u64) -> usize
+    ensures { λ r. ⌜ r ≤ 40 ⌝ }
+{
+    if is_wrong(d, 4) {
+        return within(d.key, 4, 0, 33) as usize;
+    }
+    up_to(sections, 40)
 }
 
 // Any pressure, or one at a flow limit or just above it.
@@ -92,23 +111,28 @@ fn pressure(d: Draws) -> u64 {
     field(d, 3, PRESSURES)
 }
 
-pub fn store_pressures(pressures: &mut [u16], d: Draws) {
+// With more sections a pressure is wrong less often.
+pub fn store_pressures(pressures: &mut [u16], wind: u64, sections: u64) {
+    let d = Draws {
+        key: bits(wind, 5),
+        odds: 12 * (sections % 33),
+    };
     for i in 0usize..pressures.len() {
         pressures[i] = short(pressure(part(d, i as u64)));
     }
 }
 
 // As many elements as are needed, or some more or fewer.
-pub fn room(key: u64, needed: usize) -> usize {
+pub fn room(key: u64, needed: u64) -> u64 {
     let kind = within(key, 0, 0, 7);
     if kind == 0 {
-        return std::num::wrapping_sub_usize(needed, 1);
+        return std::num::wrapping_sub_u64(needed, 1);
     }
     if kind == 1 {
-        return (bits(key, 1) % (needed as u64 % 4096 + 1)) as usize;
+        return bits(key, 1) % (needed % 4096 + 1);
     }
     if kind < 4 {
-        return std::num::wrapping_add_usize(needed, within(key, 1, 1, 20) as usize);
+        return std::num::wrapping_add_u64(needed, within(key, 1, 1, 20));
     }
     needed
 }

@@ -7,15 +7,19 @@ use crate::arguments::kind_of;
 use crate::arguments::pressure_count;
 use crate::arguments::room;
 use crate::arguments::store_pressures;
+use crate::arguments::structure_factor;
+use crate::arguments::up_to;
 use crate::draws::Draws;
 use crate::draws::bits;
-use crate::draws::field;
 use crate::draws::once_in;
 use crate::draws::short;
 use crate::draws::word;
-use crate::files::Size;
-use crate::files::item_of;
-use crate::files::put_any_file;
+use crate::files::File;
+use crate::towers::damaged_file;
+use crate::towers::extent_of;
+use crate::towers::item_fields;
+use crate::towers::item_of;
+use crate::towers::sound_file;
 use lines::digest::bytes_digest;
 use lines::digest::mix;
 use lines::digest::numbers_digest;
@@ -24,7 +28,6 @@ use model::CheckAnswer;
 use model::Legs;
 use model::WriteAnswer;
 use model::numbers::refusal_number;
-use model::ranges::STRUCTURE_FACTOR;
 use service::State;
 use service::Step;
 use service::answers::check;
@@ -36,19 +39,24 @@ use service::changes::set_wind;
 use service::changes::take_down;
 use tower_file::file::file_length;
 
-// The state after a call, document 01's number of its answer, 0 where it is accepted, and a number for everything else that it hands back, lent
-// elements included.
-pub struct Called {
-    pub state: State,
+// What a call hands back beside the state: document 01's number of its answer, 0 where it is accepted, and a number for all else, lent elements
+// included.
+pub struct Told {
     pub answer: u64,
     pub rest: u64,
+}
+
+// The state after a call, and what it hands back beside it.
+pub struct Called {
+    pub state: State,
+    pub told: Told,
 }
 
 // What a call's arguments are drawn for. Where there is no tower, one section on four legs.
 struct Seen {
     legs: Legs,
     sections: u64,
-    length: usize,
+    length: u64,
 }
 
 fn seen_of(s: State) -> Seen {
@@ -62,11 +70,10 @@ fn seen_of(s: State) -> Seen {
     }
     let tower = s.tower;
     let legs = tower.legs;
-    let length = file_length(tower);
     Seen {
         legs,
         sections: tower.count as u64,
-        length,
+        length: file_length(tower) as u64,
     }
 }
 
@@ -80,158 +87,140 @@ pub fn answer_number(a: Answer) -> u64 {
 fn answered(t: Step) -> Called {
     let state = t.state;
     let answer = t.answer;
-    Called {
-        state,
+    let told = Told {
         answer: answer_number(answer),
         rest: 0,
-    }
+    };
+    Called { state, told }
 }
 
-// A call that was not made.
-fn uncalled(s: State) -> Called {
-    Called {
-        state: s,
-        answer: 0,
-        rest: 0,
-    }
+pub fn call_erect(s: State, f: File) -> Step {
+    let bytes = f.bytes;
+    let n = up_to(f.length as u64, 3000);
+    erect(s, &bytes[0..n])
 }
 
-fn call_erect(s: State, key: u64, size: Size, sound: bool) -> Called {
-    let mut file = [0u8; 3000];
-    let n = put_any_file(&mut file, key, size, sound);
-    if 3000 < n {
-        return uncalled(s);
-    }
-    answered(erect(s, &file[0..n]))
-}
-
-fn call_hang(s: State, key: u64, seen: Seen) -> Called {
+fn call_hang(s: State, key: u64, sections: u64) -> Step {
     let d = Draws { key, odds: 30 };
-    let last = word(std::num::wrapping_sub_u64(seen.sections, 1));
-    let item = item_of(d, any_number(key), last);
-    answered(hang(s, item))
+    let last = word(std::num::wrapping_sub_u64(sections, 1));
+    hang(s, item_of(item_fields(d, any_number(key), last)))
 }
 
 // A number that is held, or any.
-fn taken(s: State, key: u64) -> u64 {
+fn taken(s: State, key: u64) -> u16 {
     let tower = s.tower;
     let held = tower.held;
+    let any = short(any_number(key));
     if held == 0 {
-        return any_number(key);
+        return any;
     }
     let i = (bits(key, 2) % held as u64) as usize;
     if 64 <= i {
-        return any_number(key);
+        return any;
     }
     if once_in(key, 1, 2) {
-        return any_number(key);
+        return any;
     }
     let items = tower.items;
     let item = items[i];
-    item.number as u64
+    item.number
 }
 
-fn call_take_down(s: State, key: u64) -> Called {
-    answered(take_down(s, short(taken(s, key))))
-}
-
-fn call_wind(s: State, key: u64, seen: Seen) -> Called {
+// Of 40 pressures the first are given, most often one per section.
+fn call_wind(s: State, key: u64, legs: Legs, sections: u64) -> Step {
     let d = Draws { key, odds: 12 };
-    let sections = seen.sections;
-    let count = pressure_count(d, sections) as usize;
-    if 40 < count {
-        return uncalled(s);
-    }
     let mut pressures = [0u16; 40];
-    let e = Draws {
-        key: bits(key, 5),
-        odds: 12 * (sections % 64),
-    };
-    store_pressures(&mut pressures, e);
-    let legs = seen.legs;
-    let k = word(direction(d, legs));
-    let ice = word(ice_class(d));
-    let factor = word(field(d, 3, STRUCTURE_FACTOR));
-    answered(set_wind(s, k, ice, factor, &pressures[0..count]))
+    store_pressures(&mut pressures, key, sections);
+    let count = pressure_count(d, sections);
+    set_wind(
+        s,
+        direction(d, legs),
+        ice_class(d),
+        structure_factor(d),
+        &pressures[0..count],
+    )
 }
 
-fn reported(s: State, lent: &mut [u64]) -> Called {
+fn report_told(s: State, lent: &mut [u64]) -> Told {
     let answer = report(s, lent);
-    Called {
-        state: s,
+    Told {
         answer: answer_number(answer),
         rest: numbers_digest(lent),
     }
 }
 
-fn call_report(s: State, key: u64, seen: Seen) -> Called {
-    let n = room(key, 6 * (seen.sections % 64) as usize);
-    if 220 < n {
-        return uncalled(s);
-    }
+fn call_report(s: State, key: u64, sections: u64) -> Told {
+    let n = up_to(room(key, 6 * (sections % 33)), 220);
     let mut lent = [11_936_128_518_282_651_045u64; 220];
-    reported(s, &mut lent[0..n])
+    report_told(s, &mut lent[0..n])
 }
 
-fn call_check(s: State) -> Called {
-    let answer = check(s);
-    match answer {
-        CheckAnswer::Over(i) => Called {
-            state: s,
+// The section, or 32 for none.
+fn check_told(a: CheckAnswer) -> Told {
+    match a {
+        CheckAnswer::Over(i) => Told {
             answer: 0,
             rest: i as u64,
         },
-        CheckAnswer::NoneOver => Called {
-            state: s,
+        CheckAnswer::NoneOver => Told {
             answer: 0,
             rest: 32,
         },
-        CheckAnswer::Refused(e) => Called {
-            state: s,
+        CheckAnswer::Refused(e) => Told {
             answer: refusal_number(e) as u64,
             rest: 0,
         },
     }
 }
 
-fn written(s: State, lent: &mut [u8]) -> Called {
-    let answer = write(s, lent);
-    let lent = bytes_digest(lent);
-    match answer {
-        WriteAnswer::Written(n) => Called {
-            state: s,
+fn write_answer_told(a: WriteAnswer, lent: u64) -> Told {
+    match a {
+        WriteAnswer::Written(n) => Told {
             answer: 0,
             rest: mix(lent, n as u64),
         },
-        WriteAnswer::Refused(e) => Called {
-            state: s,
+        WriteAnswer::Refused(e) => Told {
             answer: refusal_number(e) as u64,
             rest: mix(lent, 0),
         },
     }
 }
 
-fn call_write(s: State, key: u64, seen: Seen) -> Called {
-    let n = room(key, seen.length);
-    if 3000 < n {
-        return uncalled(s);
-    }
-    let mut lent = [165u8; 3000];
-    written(s, &mut lent[0..n])
+fn write_told(s: State, lent: &mut [u8]) -> Told {
+    let answer = write(s, lent);
+    write_answer_told(answer, bytes_digest(lent))
 }
 
-// The call of this key.
-pub fn call(s: State, key: u64, size: Size) -> Called {
+fn call_write(s: State, key: u64, length: u64) -> Told {
+    let n = up_to(room(key, length), 3000);
+    let mut lent = [165u8; 3000];
+    write_told(s, &mut lent[0..n])
+}
+
+fn unchanged(state: State, told: Told) -> Called {
+    Called { state, told }
+}
+
+// The call of this key in a list.
+pub fn call(s: State, list: u64, key: u64) -> Called {
     let argument = bits(key, 2);
     let kind = kind_of(key, s.standing, s.windy);
+    let seen = seen_of(s);
+    let legs = seen.legs;
     match kind {
-        Kind::ErectSound => call_erect(s, argument, size, true),
-        Kind::ErectDamaged => call_erect(s, argument, size, false),
-        Kind::Hang => call_hang(s, argument, seen_of(s)),
-        Kind::TakeDown => call_take_down(s, argument),
-        Kind::Wind => call_wind(s, argument, seen_of(s)),
-        Kind::Report => call_report(s, argument, seen_of(s)),
-        Kind::Check => call_check(s),
-        Kind::Write => call_write(s, argument, seen_of(s)),
+        Kind::ErectSound => answered(call_erect(
+            s,
+            sound_file(argument, extent_of(list, argument)),
+        )),
+        Kind::ErectDamaged => answered(call_erect(
+            s,
+            damaged_file(argument, extent_of(list, argument)),
+        )),
+        Kind::Hang => answered(call_hang(s, argument, seen.sections)),
+        Kind::TakeDown => answered(take_down(s, taken(s, argument))),
+        Kind::Wind => answered(call_wind(s, argument, legs, seen.sections)),
+        Kind::Report => unchanged(s, call_report(s, argument, seen.sections)),
+        Kind::Check => unchanged(s, check_told(check(s))),
+        Kind::Write => unchanged(s, call_write(s, argument, seen.length)),
     }
 }

@@ -1,30 +1,26 @@
-// Runs 2000 drawn lists of 100 calls each, sound and damaged, each list on a service that is fresh at its start, and prints for each
-//     list PLACE: accepted COUNT, digest DIGEST
-// how many calls were accepted, and a digest of all answers and of every lent byte and number. Then it prints how often each answer came over
-// all lists, 0 for accepted calls:
-//     answers 0: COUNT, 1: COUNT, .. 22: COUNT
-// Then it runs a list of a million hangings and take-downs on one tower under a wind, at whose end the items of its start hang again, in another
-// order, and prints the report before it and after it (its digest, and a row of six numbers a section), the answers, and whether both are equal.
+// Runs 2000 drawn lists of 100 calls each, sound and damaged, each list on a service that is fresh at its start, and prints for each a line
+//     list PLACE ACCEPTED DIGEST
+// with how many of its calls were accepted, and a digest of all answers and of every lent byte and number. Then it prints how often each answer
+// came over all lists, 0 for an accepted call:
+//     answer NUMBER COUNT
+// Then it runs a list of 3 000 000 hangings and take-downs on one tower under a wind, at whose end the items of its start hang again in another
+// order. It prints the report before the list, within it and after it, a line `start`, `amid` or `end` for each section's row and then its digest;
+// the answers, as `million NUMBER COUNT`; and whether the first report and the last are equal.
 mod arguments;
 mod calls;
 mod draws;
 mod files;
 mod million;
 mod sections;
-mod texts;
+mod towers;
 
+use crate::calls::answer_number;
 use crate::calls::call;
 use crate::draws::bits;
-use crate::files::size_of;
-use crate::million::churned;
-use crate::million::cleared;
-use crate::million::hung_again;
+use crate::million::DRAWN_END;
+use crate::million::END;
 use crate::million::start;
-use crate::texts::put_answers;
-use crate::texts::put_list;
-use crate::texts::put_million;
-use crate::texts::put_report;
-use crate::texts::put_row;
+use crate::million::step_at;
 use libc::STDOUT_FILENO;
 use lines::digest::START;
 use lines::digest::mix;
@@ -33,71 +29,106 @@ use service::State;
 use service::answers::report;
 use service::whole::fresh;
 
-// How many calls of a list were accepted, and the digest of its answers and of all that was lent.
-struct Tally {
-    accepted: u64,
+// A list up to some call: the state, a digest of the answers and of all that was lent, and how often each answer came, also in earlier lists.
+struct Run {
+    state: State,
     digest: u64,
+    counts: [u64; 23],
+}
+
+fn print_line(name: &[u8], numbers: &[u64]) {
+    io::write_all(STDOUT_FILENO, name);
+    for i in 0usize..numbers.len() {
+        io::write_all(STDOUT_FILENO, b" ");
+        io::print_decimal(STDOUT_FILENO, numbers[i]);
+    }
+    io::write_all(STDOUT_FILENO, b"\n");
+}
+
+fn print_counts(name: &[u8], counts: [u64; 23]) {
+    for i in 0usize..23 {
+        let count = counts[i];
+        if 0 < count {
+            let line = [i as u64, count];
+            print_line(name, &line);
+        }
+    }
 }
 
 // One more answer of this number.
-fn count_answer(counts: &mut [u64], answer: u64) {
-    let i = answer as usize;
-    if i < counts.len() {
-        counts[i] = std::num::wrapping_add_u64(counts[i], 1);
-    }
+fn counted(counts: [u64; 23], answer: u64) -> [u64; 23] {
+    let mut more = counts;
+    let i = (answer % 23) as usize;
+    more[i] = std::num::wrapping_add_u64(more[i], 1);
+    more
 }
 
-fn mixed(t: Tally, answer: u64, rest: u64) -> Tally {
-    let digest = mix(mix(t.digest, answer), rest);
-    if answer == 0 {
-        return Tally {
-            accepted: std::num::wrapping_add_u64(t.accepted, 1),
-            digest,
-        };
-    }
-    Tally {
-        accepted: t.accepted,
+fn listed(r: Run, list: u64, place: u64) -> Run {
+    let before = r.state;
+    let called = call(before, list, bits(list, place));
+    let state = called.state;
+    let told = called.told;
+    let counts = r.counts;
+    let counts = counted(counts, told.answer);
+    let digest = mix(mix(r.digest, told.answer), told.rest);
+    Run {
+        state,
         digest,
+        counts,
     }
 }
 
-// The list of this key.
-fn run_list(key: u64, counts: &mut [u64]) -> Tally {
-    let size = size_of(key);
-    let mut state = fresh();
-    let mut tally = Tally {
-        accepted: 0,
+fn run_list(counts: [u64; 23], list: u64) -> Run {
+    let state = fresh();
+    let mut run = Run {
+        state,
         digest: START,
+        counts,
     };
     for place in 0u64..100 {
-        let called = call(state, bits(key, place), size);
-        count_answer(counts, called.answer);
-        tally = mixed(tally, called.answer, called.rest);
-        state = called.state;
+        run = listed(run, list, place);
     }
-    tally
+    run
 }
 
-fn run_lists(counts: &mut [u64], out: &mut [u8]) {
-    for list in 0u64..2000 {
-        let tally = run_list(bits(1, list), counts);
-        let n = put_list(out, list, tally.accepted, tally.digest);
-        io::write_all(STDOUT_FILENO, &out[0..n]);
+fn run_lists() -> [u64; 23] {
+    let mut counts = [0u64; 23];
+    for place in 0u64..2000 {
+        let run = run_list(counts, bits(1, place));
+        let more = run.counts;
+        let accepted = std::num::wrapping_sub_u64(more[0], counts[0]);
+        let line = [place, accepted, run.digest];
+        print_line(b"list", &line);
+        counts = more;
     }
+    counts
 }
 
-// The first of `rows`, as far as whole rows go.
-fn print_rows(rows: &[u64], out: &mut [u8]) {
+// A row for each of six sections.
+fn print_rows(name: &[u8], rows: &[u64]) {
     let mut at: usize = 0;
-    while rows.len() - at >= 6 {
+    while 6 <= rows.len() - at {
         let end = at + 6;
-        let n = put_row(out, &rows[at..end]);
-        io::write_all(STDOUT_FILENO, &out[0..n]);
+        print_line(name, &rows[at..end]);
         at = end;
     }
 }
 
-fn equal(a: &[u64; 36], b: &[u64; 36]) -> bool {
+fn rows_of(s: State) -> [u64; 36] {
+    let mut rows = [0u64; 36];
+    report(s, &mut rows);
+    rows
+}
+
+fn print_report(name: &[u8], s: State) {
+    let mut rows = [0u64; 36];
+    report(s, &mut rows);
+    print_rows(name, &rows);
+    let line = [numbers_digest(&rows)];
+    print_line(b"digest", &line);
+}
+
+fn equal(a: [u64; 36], b: [u64; 36]) -> bool {
     for i in 0usize..36 {
         if a[i] != b[i] {
             return false;
@@ -106,45 +137,63 @@ fn equal(a: &[u64; 36], b: &[u64; 36]) -> bool {
     true
 }
 
-fn print_report(name: &[u8], rows: &[u64; 36], out: &mut [u8]) {
-    let n = put_report(out, name, numbers_digest(rows));
-    io::write_all(STDOUT_FILENO, &out[0..n]);
-    print_rows(rows, out);
-}
-
-// The report of a tower with six sections.
-fn rows_of(s: State) -> [u64; 36] {
-    let mut rows = [0u64; 36];
-    report(s, &mut rows);
-    rows
-}
-
-fn run_million(out: &mut [u8]) {
-    let mut counts = [0u64; 23];
-    let s = start();
-    let first = rows_of(s);
-    let s = churned(s, &mut counts);
-    let amid = rows_of(s);
-    let s = cleared(s, &mut counts);
-    let s = hung_again(s, &mut counts);
-    let last = rows_of(s);
-    print_report(b"start", &first, out);
-    let n = put_million(out, &counts);
-    io::write_all(STDOUT_FILENO, &out[0..n]);
-    print_report(b"amid", &amid, out);
-    print_report(b"end", &last, out);
-    if equal(&first, &last) {
+fn print_equal(equal: bool) {
+    if equal {
         io::write_all(STDOUT_FILENO, b"equal, number for number\n");
-    } else {
-        io::write_all(STDOUT_FILENO, b"not equal\n");
+        return;
+    }
+    io::write_all(STDOUT_FILENO, b"not equal\n");
+}
+
+fn stepped(r: Run, place: u64) -> Run {
+    let before = r.state;
+    let step = step_at(before, place);
+    let state = step.state;
+    let answer = step.answer;
+    let counts = r.counts;
+    let counts = counted(counts, answer_number(answer));
+    Run {
+        state,
+        digest: r.digest,
+        counts,
     }
 }
 
+fn stepped_through(r: Run, from: u64, to: u64) -> Run {
+    let mut run = r;
+    for place in from..to {
+        run = stepped(run, place);
+    }
+    run
+}
+
+// The end of the list that starts with this state.
+fn run_million(state: State) -> Run {
+    let counts = [0u64; 23];
+    let run = Run {
+        state,
+        digest: START,
+        counts,
+    };
+    let run = stepped_through(run, 0, DRAWN_END);
+    let amid = run.state;
+    print_report(b"amid", amid);
+    stepped_through(run, DRAWN_END, END)
+}
+
+fn print_million() {
+    let first = start();
+    print_report(b"start", first);
+    let run = run_million(first);
+    let last = run.state;
+    print_report(b"end", last);
+    let counts = run.counts;
+    print_counts(b"million", counts);
+    print_equal(equal(rows_of(first), rows_of(last)));
+}
+
 fn main() {
-    let mut out = [0u8; 1000];
-    let mut counts = [0u64; 23];
-    run_lists(&mut counts, &mut out);
-    let n = put_answers(&mut out, &counts);
-    io::write_all(STDOUT_FILENO, &out[0..n]);
-    run_million(&mut out);
+    let counts = run_lists();
+    print_counts(b"answer", counts);
+    print_million();
 }

@@ -1,4 +1,4 @@
-// Sections of a drawn tower's file. Each function puts something at `at`, as far as the file reaches, and answers the next place.
+// Sections of a drawn tower's file.
 ghost use Prim.Native.Nat.{_≤_};
 use crate::draws::Draws;
 use crate::draws::bits;
@@ -8,7 +8,10 @@ use crate::draws::once_in;
 use crate::draws::or_wrong;
 use crate::draws::part;
 use crate::draws::within;
-use file_fields::fields::write_field;
+use crate::files::File;
+use crate::files::put;
+use crate::files::short_behind;
+use crate::files::word_behind;
 use model::Range;
 use model::ranges::GROUP_COUNT;
 use model::ranges::MEMBER_KIND;
@@ -27,27 +30,13 @@ const HALF_HEIGHT: Range = Range {
     high: 5000,
 };
 
-// The number's low bytes, high byte first.
-pub fn put_field(file: &mut [u8], at: usize, width: usize, number: u64) -> usize {
-    if file.len() < at {
-        return at;
-    }
-    if file.len() - at < width {
-        return at;
-    }
-    write_field(&mut file[at..], width, number);
-    at + width
-}
-
 // The product of the low 32 bits of both.
 fn product(a: u64, b: u64) -> u64 {
     (a % 4_294_967_296) * (b % 4_294_967_296)
 }
 
-fn put_group(file: &mut [u8], at: usize, kind: u64, size: u64, length: u64) -> usize {
-    let at = put_field(file, at, 1, kind);
-    let at = put_field(file, at, 2, size);
-    put_field(file, at, 4, length)
+fn put_group(f: File, kind: u64, size: u64, length: u64) -> File {
+    put(f, 7, word_behind(short_behind(kind, size), length))
 }
 
 // None, any, or one that is near the shears.
@@ -64,10 +53,12 @@ fn allowance(section: u64) -> u64 {
 }
 
 // A section's own fields, down to its group count.
-fn put_frame(file: &mut [u8], at: usize, key: u64, width: u64, height: u64) -> usize {
-    let at = put_field(file, at, 2, width);
-    let at = put_field(file, at, 2, height);
-    put_field(file, at, 4, allowance(key))
+fn put_frame(f: File, key: u64, width: u64, height: u64) -> File {
+    put(
+        f,
+        8,
+        word_behind(short_behind(width, height), allowance(key)),
+    )
 }
 
 // What is more than the full face, in mm². A bare face has that only in a damaged file.
@@ -90,19 +81,17 @@ fn ice_of(key: u64) -> u64
 }
 
 // A section whose face is exactly full, bare or under some ice, or 1 mm² more than that.
-fn put_full_section(file: &mut [u8], at: usize, d: Draws) -> usize {
+fn put_full_section(f: File, d: Draws) -> File {
     let key = d.key;
     let ice = ice_of(key);
     let size = within(key, 2, 100, 899);
     let across = within(key, 3, 1, 15);
     let height = 2 * within(key, 4, 50, 5000);
-    let more = more_than_full(d, ice);
     let length = std::num::wrapping_sub_u64(product(across, height), 1);
-    let width = product(size + 20 * ice, across);
-    let at = put_frame(file, at, key, width, height);
-    let at = put_field(file, at, 1, 2);
-    let at = put_group(file, at, within(key, 6, 0, 1), size, length);
-    put_group(file, at, within(key, 7, 0, 1), size + more, 1)
+    let f = put_frame(f, key, product(size + 20 * ice, across), height);
+    let f = put(f, 1, 2);
+    let f = put_group(f, within(key, 6, 0, 1), size, length);
+    put_group(f, within(key, 7, 0, 1), size + more_than_full(d, ice), 1)
 }
 
 // Any size, or a diameter with a flow limit.
@@ -114,7 +103,7 @@ fn size_of(d: Draws) -> u64 {
     field(d, 2, MEMBER_SIZE)
 }
 
-// The length that gives the group its area, as far as a group may have it.
+// The length that gives a group its area, as far as a group may have it.
 fn length_of(area: u64, size: u64) -> u64 {
     if size == 0 {
         return 1;
@@ -129,19 +118,18 @@ fn length_of(area: u64, size: u64) -> u64 {
     length
 }
 
-fn put_drawn_group(file: &mut [u8], at: usize, d: Draws, area: u64) -> usize {
-    let kind = field(d, 0, MEMBER_KIND);
+fn put_drawn_group(f: File, d: Draws, area: u64) -> File {
     let size = size_of(d);
     let length = or_wrong(d, 3, length_of(area, size), MEMBER_LENGTH);
-    put_group(file, at, kind, size, length)
+    put_group(f, field(d, 0, MEMBER_KIND), size, length)
 }
 
-fn put_groups(file: &mut [u8], at: usize, d: Draws, count: u64, area: u64) -> usize {
-    let mut next = at;
+fn put_groups(f: File, d: Draws, count: u64, area: u64) -> File {
+    let mut file = f;
     for i in 0u64..count {
-        next = put_drawn_group(file, next, part(d, i), area);
+        file = put_drawn_group(file, part(d, i), area);
     }
-    next
+    file
 }
 
 fn group_count(key: u64) -> u64
@@ -163,28 +151,28 @@ fn height_of(d: Draws) -> u64 {
 }
 
 // A section with any solidity ratio.
-fn put_any_section(file: &mut [u8], at: usize, d: Draws) -> usize {
+fn put_any_section(f: File, d: Draws) -> File {
     let key = d.key;
     let width = field(d, 0, SECTION_WIDTH);
     let height = height_of(d);
-    let at = put_frame(file, at, key, width, height);
     let count = group_count(key);
-    let at = put_field(file, at, 1, or_wrong(d, 5, count, GROUP_COUNT));
     let solid = product(product(width, within(key, 6, 0, 1000)) / 1000, height);
-    put_groups(file, at, part(d, 7), count, solid / count)
+    let f = put_frame(f, key, width, height);
+    let f = put(f, 1, or_wrong(d, 5, count, GROUP_COUNT));
+    put_groups(f, part(d, 7), count, solid / count)
 }
 
-fn put_section(file: &mut [u8], at: usize, d: Draws) -> usize {
+fn put_section(f: File, d: Draws) -> File {
     if once_in(d.key, 0, 8) {
-        return put_full_section(file, at, part(d, 1));
+        return put_full_section(f, part(d, 1));
     }
-    put_any_section(file, at, part(d, 1))
+    put_any_section(f, part(d, 1))
 }
 
-pub fn put_sections(file: &mut [u8], at: usize, d: Draws, count: u64) -> usize {
-    let mut next = at;
+pub fn put_sections(f: File, d: Draws, count: u64) -> File {
+    let mut file = f;
     for i in 0u64..count {
-        next = put_section(file, next, part(d, i));
+        file = put_section(file, part(d, i));
     }
-    next
+    file
 }

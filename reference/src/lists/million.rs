@@ -1,9 +1,9 @@
-//! A million hangings and take-downs on one tower, between two reports on the same
-//! items.
+//! Hangings and take-downs on one tower, of which a million and more are accepted,
+//! between two reports on the same items.
 
 use super::draws::{Draws, Key};
 use super::files::{file, item, Extent};
-use super::{counted, Counts, ANSWERS};
+use super::{counts_text, line, Counts, ANSWERS};
 use crate::file_cases::digest;
 use crate::refusal::Refusal;
 use crate::report::ROW;
@@ -15,7 +15,7 @@ use crate::vectors::number;
 const KEY: Key = Key(2);
 
 /// All calls between the first report and the last.
-const CALLS: u32 = 1_000_000;
+pub const CALLS: u32 = 3_000_000;
 
 /// Sections of the tower.
 const SECTIONS: u32 = 6;
@@ -29,10 +29,10 @@ pub const HUNG: u32 = 12;
 /// So many calls most of which hang, then so many most of which take down.
 const TIDE: u32 = 1_000;
 
-/// What the program tells of the million.
+/// What the program tells of this list.
 #[derive(Clone, Debug, PartialEq, Eq)]
 pub struct Million {
-    /// The answers of the million calls.
+    /// The answers of all calls between the first report and the last.
     pub counts: Counts,
     /// The report before them.
     pub start: Vec<u64>,
@@ -42,7 +42,7 @@ pub struct Million {
     pub end: Vec<u64>,
 }
 
-/// Runs the million.
+/// Runs the list.
 pub fn million() -> Million {
     let mut service = tower();
     let mut counts = [0; ANSWERS];
@@ -114,36 +114,25 @@ fn report(service: &Service) -> Vec<u64> {
 impl Million {
     /// The lines that the program prints.
     pub fn text(&self) -> String {
-        let refused: Vec<String> = [9, 10, 14]
-            .into_iter()
-            .map(|number| counted(&self.counts, number))
-            .collect();
         let equal = if self.start == self.end {
-            "equal, number for number"
+            "equal, number for number\n"
         } else {
-            "not equal"
+            "not equal\n"
         };
         [
-            report_text("start", &self.start),
-            format!(
-                "million: accepted {},{}\n",
-                self.counts[0],
-                refused.join(",")
-            ),
-            report_text("amid", &self.amid),
-            report_text("end", &self.end),
-            format!("{equal}\n"),
+            &report_text("start", &self.start),
+            &report_text("amid", &self.amid),
+            &report_text("end", &self.end),
+            &counts_text("million", &self.counts),
+            equal,
         ]
         .concat()
     }
 }
 
-/// The digest of a report, and its rows.
+/// The rows of a report, then its digest.
 fn report_text(name: &str, rows: &[u64]) -> String {
-    let mut text = format!("{name}: digest {}\n", digest(rows.iter().copied()));
-    for row in rows.chunks(ROW) {
-        let numbers: Vec<String> = row.iter().map(u64::to_string).collect();
-        text += &format!("{}\n", numbers.join(" "));
-    }
-    text
+    let lines = rows.chunks(ROW).map(|row| line(name, row.iter().copied()));
+    let digest = digest(rows.iter().copied());
+    lines.chain([line("digest", [digest])]).collect()
 }

@@ -6,10 +6,10 @@ use Rattle.lists.proofs.print_rows.Statement.{statement}
 use Rattle.lists.proofs.print_rows.Tie as tie
 
 abbrev Inv-loop : tie.InvT-loop
-Inv-loop rows out₀ at₀ out at = (length out ≡ length out₀) × (at ≤ length rows)
+Inv-loop name rows at₀ at = at ≤ length rows
 
 abbrev μ-loop : tie.MeasureT-loop
-μ-loop rows out₀ at₀ out at = length rows - at
+μ-loop name rows at₀ at = length rows - at
 
 loop-holds : tie.Need-loop-holds Inv-loop μ-loop
 loop-holds c = search needs
@@ -20,41 +20,26 @@ sub-loop c = search needs
 add-end : tie.Need-add-end Inv-loop μ-loop
 add-end c = search needs
 
-mul-put-row : tie.Need-mul-put-row Inv-loop μ-loop
-mul-put-row c = search needs
+mul-print-line : tie.Need-mul-print-line Inv-loop μ-loop
+mul-print-line c = search needs
 
-sub-put-row : tie.Need-sub-put-row Inv-loop μ-loop
-sub-put-row c = search needs
+sub-print-line : tie.Need-sub-print-line Inv-loop μ-loop
+sub-print-line c = search needs
 
-part-put-row-start : tie.Need-part-put-row-start Inv-loop μ-loop
-part-put-row-start c = search needs
+part-print-line-start : tie.Need-part-print-line-start Inv-loop μ-loop
+part-print-line-start c = search needs
 
-part-put-row-end : tie.Need-part-put-row-end Inv-loop μ-loop
-part-put-row-end c = search needs
+part-print-line-end : tie.Need-part-print-line-end Inv-loop μ-loop
+part-print-line-end c = search needs
 
-put-row-requires : tie.Need-put-row-requires Inv-loop μ-loop
-put-row-requires c κs = search needs
-
-sub-write-all : tie.Need-sub-write-all Inv-loop μ-loop
-sub-write-all c = search needs
-
-part-write-all-start : tie.Need-part-write-all-start Inv-loop μ-loop
-part-write-all-start c = search needs
-
-part-write-all-end : tie.Need-part-write-all-end Inv-loop μ-loop
-part-write-all-end c = search needs
-
-write-all-requires : tie.Need-write-all-requires Inv-loop μ-loop
-write-all-requires c κs = search needs
+print-line-requires : tie.Need-print-line-requires Inv-loop μ-loop
+print-line-requires c κs = search needs
 
 loop-less : tie.Need-loop-less Inv-loop μ-loop
 loop-less c = search needs
 
 loop-again : tie.Need-loop-again Inv-loop μ-loop
 loop-again c = search needs
-
-same-length : tie.Need-same-length Inv-loop μ-loop
-same-length c = search needs
 
 returns : tie.Need-returns Inv-loop μ-loop
 returns c = search needs
@@ -68,16 +53,11 @@ print-rows-spec =
     loop-holds
     sub-loop
     add-end
-    mul-put-row
-    sub-put-row
-    part-put-row-start
-    part-put-row-end
-    put-row-requires
-    sub-write-all
-    part-write-all-start
-    part-write-all-end
-    write-all-requires
+    mul-print-line
+    sub-print-line
+    part-print-line-start
+    part-print-line-end
+    print-line-requires
     loop-less
     loop-again
-    same-length
     returns)

@@ -6,10 +6,10 @@ use Rattle.lists.proofs.run_lists.Statement.{statement}
 use Rattle.lists.proofs.run_lists.Tie as tie
 
 abbrev Inv-loop : tie.InvT-loop
-Inv-loop counts₀ out₀ list₀ counts out list = (length counts ≡ length counts₀) × (length out ≡ length out₀)
+Inv-loop counts₀ place₀ t7 counts place = Unit {0}
 
 abbrev μ-loop : tie.MeasureT-loop
-μ-loop counts₀ out₀ list₀ counts out list = 2000 - list
+μ-loop counts₀ place₀ t7 counts place = 2000 - place
 
 loop-holds : tie.Need-loop-holds Inv-loop μ-loop
 loop-holds c = search needs
@@ -20,35 +20,32 @@ bits-requires c κs = search needs
 run-list-requires : tie.Need-run-list-requires Inv-loop μ-loop
 run-list-requires c κs = search needs
 
-put-list-requires : tie.Need-put-list-requires Inv-loop μ-loop
-put-list-requires c κs = search needs
+array-read-wrapping-sub-u64 : tie.Need-array-read-wrapping-sub-u64 Inv-loop μ-loop
+array-read-wrapping-sub-u64 c = search needs
 
-sub-write-all : tie.Need-sub-write-all Inv-loop μ-loop
-sub-write-all c = search needs
+array-read-wrapping-sub-u64-2 : tie.Need-array-read-wrapping-sub-u64-2 Inv-loop μ-loop
+array-read-wrapping-sub-u64-2 c = search needs
 
-part-write-all-start : tie.Need-part-write-all-start Inv-loop μ-loop
-part-write-all-start c = search needs
+wrapping-sub-u64-requires : tie.Need-wrapping-sub-u64-requires Inv-loop μ-loop
+wrapping-sub-u64-requires c κs = search needs
 
-part-write-all-end : tie.Need-part-write-all-end Inv-loop μ-loop
-part-write-all-end c = search needs
+slice-aggregate-print-line : tie.Need-slice-aggregate-print-line Inv-loop μ-loop
+slice-aggregate-print-line c = search needs
 
-write-all-requires : tie.Need-write-all-requires Inv-loop μ-loop
-write-all-requires c κs = search needs
+slice-aggregate-print-line-2 : tie.Need-slice-aggregate-print-line-2 Inv-loop μ-loop
+slice-aggregate-print-line-2 c = search needs
 
-add-list : tie.Need-add-list Inv-loop μ-loop
-add-list c = search needs
+print-line-requires : tie.Need-print-line-requires Inv-loop μ-loop
+print-line-requires c κs = search needs
+
+add-place : tie.Need-add-place Inv-loop μ-loop
+add-place c = search needs
 
 loop-less : tie.Need-loop-less Inv-loop μ-loop
 loop-less c = search needs
 
 loop-again : tie.Need-loop-again Inv-loop μ-loop
 loop-again c = search needs
-
-same-length : tie.Need-same-length Inv-loop μ-loop
-same-length c = search needs
-
-same-length-2 : tie.Need-same-length-2 Inv-loop μ-loop
-same-length-2 c = search needs
 
 returns : tie.Need-returns Inv-loop μ-loop
 returns c = search needs
@@ -62,14 +59,13 @@ run-lists-spec =
     loop-holds
     bits-requires
     run-list-requires
-    put-list-requires
-    sub-write-all
-    part-write-all-start
-    part-write-all-end
-    write-all-requires
-    add-list
+    array-read-wrapping-sub-u64
+    array-read-wrapping-sub-u64-2
+    wrapping-sub-u64-requires
+    slice-aggregate-print-line
+    slice-aggregate-print-line-2
+    print-line-requires
+    add-place
     loop-less
     loop-again
-    same-length
-    same-length-2
     returns)

@@ -6,10 +6,16 @@ use Rattle.lists.proofs.arguments.store_pressures.Statement.{statement}
 use Rattle.lists.proofs.arguments.store_pressures.Tie as tie
 
 abbrev Inv-loop : tie.InvT-loop
-Inv-loop pressures₀ d i₀ i-end pressures i = (length pressures ≡ length pressures₀) × (i-end ≡ length pressures₀)
+Inv-loop pressures₀ wind sections d i₀ i-end pressures i = (length pressures ≡ length pressures₀) × (i-end ≡ length pressures₀)
 
 abbrev μ-loop : tie.MeasureT-loop
-μ-loop pressures₀ d i₀ i-end pressures i = i-end - i
+μ-loop pressures₀ wind sections d i₀ i-end pressures i = i-end - i
+
+bits-requires : tie.Need-bits-requires Inv-loop μ-loop
+bits-requires c κs = search needs
+
+mul-t8 : tie.Need-mul-t8 Inv-loop μ-loop
+mul-t8 c = search needs
 
 loop-holds : tie.Need-loop-holds Inv-loop μ-loop
 loop-holds c = search needs
@@ -50,6 +56,8 @@ store-pressures-spec =
     (tie.spec
     Inv-loop
     μ-loop
+    bits-requires
+    mul-t8
     loop-holds
     part-requires
     pressure-requires
