@@ -16,42 +16,16 @@ use model::ranges::ICE_CLASSES;
 use model::ranges::PRESSURES;
 use model::ranges::STRUCTURE_FACTOR;
 
-// What a call is.
-pub enum Kind {
-    ErectSound,
-    ErectDamaged,
-    Hang,
-    TakeDown,
-    Wind,
-    Report,
-    Check,
-    Write,
-}
-
-// The kind of the call with this number of 100.
-fn kind_at(n: u64) -> Kind {
-    match n {
-        0..=2 => Kind::ErectSound,
-        3..=10 => Kind::ErectDamaged,
-        11..=34 => Kind::Hang,
-        35..=49 => Kind::TakeDown,
-        50..=63 => Kind::Wind,
-        64..=79 => Kind::Report,
-        80..=89 => Kind::Check,
-        _ => Kind::Write,
-    }
-}
-
-// What is missing, a tower or a wind, comes more often.
-pub fn kind_of(key: u64, standing: bool, windy: bool) -> Kind {
+// Which call is drawn, of 100. What is missing, a tower or a wind, comes more often.
+pub fn kind_of(key: u64, standing: bool, windy: bool) -> u64 {
     let soon = once_in(key, 0, 3);
     if soon && !standing {
-        return Kind::ErectSound;
+        return 0;
     }
     if soon && !windy {
-        return Kind::Wind;
+        return 50;
     }
-    kind_at(within(key, 1, 0, 99))
+    within(key, 1, 0, 99)
 }
 
 // The number of an item.

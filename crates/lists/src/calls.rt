@@ -1,5 +1,4 @@
 // A call with drawn arguments on a service, and what it hands back as numbers for a digest.
-use crate::arguments::Kind;
 use crate::arguments::any_number;
 use crate::arguments::direction;
 use crate::arguments::ice_class;
@@ -15,11 +14,11 @@ use crate::draws::once_in;
 use crate::draws::short;
 use crate::draws::word;
 use crate::files::File;
-use crate::towers::damaged_file;
-use crate::towers::extent_of;
+use crate::million::MILLION;
+use crate::million::step_at;
+use crate::towers::drawn_file;
 use crate::towers::item_fields;
 use crate::towers::item_of;
-use crate::towers::sound_file;
 use lines::digest::bytes_digest;
 use lines::digest::mix;
 use lines::digest::numbers_digest;
@@ -77,7 +76,7 @@ fn seen_of(s: State) -> Seen {
     }
 }
 
-pub fn answer_number(a: Answer) -> u64 {
+fn answer_number(a: Answer) -> u64 {
     match a {
         Answer::Accepted => 0,
         Answer::Refused(e) => refusal_number(e) as u64,
@@ -197,30 +196,44 @@ fn call_write(s: State, key: u64, length: u64) -> Told {
     write_told(s, &mut lent[0..n])
 }
 
-fn unchanged(state: State, told: Told) -> Called {
-    Called { state, told }
+// The calls that may change the state: 3 of 100 erect a tower, 8 a damaged one, 24 hang, 15 take down, 14 set a wind.
+fn changed(s: State, list: u64, kind: u64, key: u64) -> Step {
+    if kind < 11 {
+        return call_erect(s, drawn_file(list, key, kind < 3));
+    }
+    let seen = seen_of(s);
+    if kind < 35 {
+        return call_hang(s, key, seen.sections);
+    }
+    if kind < 50 {
+        return take_down(s, taken(s, key));
+    }
+    let legs = seen.legs;
+    call_wind(s, key, legs, seen.sections)
 }
 
-// The call of this key in a list.
-pub fn call(s: State, list: u64, key: u64) -> Called {
-    let argument = bits(key, 2);
-    let kind = kind_of(key, s.standing, s.windy);
+// The other calls: 16 of 100 report, 10 check, 10 write.
+fn answer_of(s: State, kind: u64, key: u64) -> Told {
     let seen = seen_of(s);
-    let legs = seen.legs;
-    match kind {
-        Kind::ErectSound => answered(call_erect(
-            s,
-            sound_file(argument, extent_of(list, argument)),
-        )),
-        Kind::ErectDamaged => answered(call_erect(
-            s,
-            damaged_file(argument, extent_of(list, argument)),
-        )),
-        Kind::Hang => answered(call_hang(s, argument, seen.sections)),
-        Kind::TakeDown => answered(take_down(s, taken(s, argument))),
-        Kind::Wind => answered(call_wind(s, argument, legs, seen.sections)),
-        Kind::Report => unchanged(s, call_report(s, argument, seen.sections)),
-        Kind::Check => unchanged(s, check_told(check(s))),
-        Kind::Write => unchanged(s, call_write(s, argument, seen.length)),
+    if kind < 80 {
+        return call_report(s, key, seen.sections);
     }
+    if kind < 90 {
+        return check_told(check(s));
+    }
+    call_write(s, key, seen.length)
+}
+
+// The call at a place of a list, which is the million's or drawn.
+pub fn call(s: State, list: u64, place: u64) -> Called {
+    if list == MILLION {
+        return answered(step_at(s, place));
+    }
+    let key = bits(list, place);
+    let kind = kind_of(key, s.standing, s.windy);
+    if kind < 64 {
+        return answered(changed(s, list, kind, bits(key, 2)));
+    }
+    let told = answer_of(s, kind, bits(key, 2));
+    Called { state: s, told }
 }

@@ -14,13 +14,12 @@ mod million;
 mod sections;
 mod towers;
 
-use crate::calls::answer_number;
 use crate::calls::call;
 use crate::draws::bits;
 use crate::million::DRAWN_END;
 use crate::million::END;
+use crate::million::MILLION;
 use crate::million::start;
-use crate::million::step_at;
 use libc::STDOUT_FILENO;
 use lines::digest::START;
 use lines::digest::mix;
@@ -63,9 +62,18 @@ fn counted(counts: [u64; 23], answer: u64) -> [u64; 23] {
     more
 }
 
-fn listed(r: Run, list: u64, place: u64) -> Run {
+fn new_run(state: State, counts: [u64; 23]) -> Run {
+    Run {
+        state,
+        digest: START,
+        counts,
+    }
+}
+
+// One call more.
+fn called(r: Run, list: u64, place: u64) -> Run {
     let before = r.state;
-    let called = call(before, list, bits(list, place));
+    let called = call(before, list, place);
     let state = called.state;
     let told = called.told;
     let counts = r.counts;
@@ -78,15 +86,11 @@ fn listed(r: Run, list: u64, place: u64) -> Run {
     }
 }
 
-fn run_list(counts: [u64; 23], list: u64) -> Run {
-    let state = fresh();
-    let mut run = Run {
-        state,
-        digest: START,
-        counts,
-    };
-    for place in 0u64..100 {
-        run = listed(run, list, place);
+// The calls of a list from one place up to another.
+fn run_part(r: Run, list: u64, from: u64, to: u64) -> Run {
+    let mut run = r;
+    for place in from..to {
+        run = called(run, list, place);
     }
     run
 }
@@ -94,7 +98,7 @@ fn run_list(counts: [u64; 23], list: u64) -> Run {
 fn run_lists() -> [u64; 23] {
     let mut counts = [0u64; 23];
     for place in 0u64..2000 {
-        let run = run_list(counts, bits(1, place));
+        let run = run_part(new_run(fresh(), counts), bits(1, place), 0, 100);
         let more = run.counts;
         let accepted = std::num::wrapping_sub_u64(more[0], counts[0]);
         let line = [place, accepted, run.digest];
@@ -120,76 +124,43 @@ fn rows_of(s: State) -> [u64; 36] {
     rows
 }
 
-fn print_report(name: &[u8], s: State) {
-    let mut rows = [0u64; 36];
-    report(s, &mut rows);
-    print_rows(name, &rows);
-    let line = [numbers_digest(&rows)];
+fn print_report(name: &[u8], rows: &[u64; 36]) {
+    print_rows(name, rows);
+    let line = [numbers_digest(rows)];
     print_line(b"digest", &line);
 }
 
-fn equal(a: [u64; 36], b: [u64; 36]) -> bool {
+// How many numbers are equal.
+fn equal(a: [u64; 36], b: [u64; 36]) -> u64 {
+    let mut count: u64 = 0;
     for i in 0usize..36 {
-        if a[i] != b[i] {
-            return false;
+        if a[i] == b[i] {
+            count = std::num::wrapping_add_u64(count, 1);
         }
     }
-    true
+    count
 }
 
-fn print_equal(equal: bool) {
-    if equal {
-        io::write_all(STDOUT_FILENO, b"equal, number for number\n");
-        return;
-    }
-    io::write_all(STDOUT_FILENO, b"not equal\n");
-}
-
-fn stepped(r: Run, place: u64) -> Run {
-    let before = r.state;
-    let step = step_at(before, place);
-    let state = step.state;
-    let answer = step.answer;
-    let counts = r.counts;
-    let counts = counted(counts, answer_number(answer));
-    Run {
-        state,
-        digest: r.digest,
-        counts,
-    }
-}
-
-fn stepped_through(r: Run, from: u64, to: u64) -> Run {
-    let mut run = r;
-    for place in from..to {
-        run = stepped(run, place);
-    }
-    run
-}
-
-// The end of the list that starts with this state.
+// The end of the million's list that starts with this state.
 fn run_million(state: State) -> Run {
     let counts = [0u64; 23];
-    let run = Run {
-        state,
-        digest: START,
-        counts,
-    };
-    let run = stepped_through(run, 0, DRAWN_END);
-    let amid = run.state;
-    print_report(b"amid", amid);
-    stepped_through(run, DRAWN_END, END)
+    let run = run_part(new_run(state, counts), MILLION, 0, DRAWN_END);
+    let amid = rows_of(run.state);
+    print_report(b"amid", &amid);
+    run_part(run, MILLION, DRAWN_END, END)
 }
 
 fn print_million() {
-    let first = start();
-    print_report(b"start", first);
-    let run = run_million(first);
-    let last = run.state;
-    print_report(b"end", last);
+    let state = start();
+    let first = rows_of(state);
+    print_report(b"start", &first);
+    let run = run_million(state);
+    let last = rows_of(run.state);
+    print_report(b"end", &last);
     let counts = run.counts;
     print_counts(b"million", counts);
-    print_equal(equal(rows_of(first), rows_of(last)));
+    let line = [equal(first, last)];
+    print_line(b"equal", &line);
 }
 
 fn main() {

@@ -25,8 +25,13 @@ const CLEARED: u64 = 2_999_988;
 
 pub const END: u64 = 3_000_000;
 
-// The key of the tower, the items and the calls.
-const KEY: Draws = Draws { key: 2, odds: 0 };
+// The key of the list, its tower and its items.
+pub const MILLION: u64 = 2;
+
+const KEY: Draws = Draws {
+    key: MILLION,
+    odds: 0,
+};
 
 // The item of this number, the same each time.
 fn numbered(number: u64) -> Item {
@@ -57,7 +62,7 @@ pub fn start() -> State {
 
 // Hangs an item or takes one down. Which of both mostly, changes with the tide of 1000 calls.
 fn drawn_step(s: State, place: u64) -> Step {
-    let key = bits(bits(2, 2), place);
+    let key = bits(bits(MILLION, 2), place);
     let number = within(key, 0, 0, 99);
     let rising = place / 1000 % 2 == 0;
     let against = once_in(key, 1, 4);

@@ -33,7 +33,7 @@ pub struct Extent {
 
 // The towers of a list have up to three sections and four items, or up to 64 items, or up to 32 sections. The last place is beyond those of the
 // list's calls.
-pub fn extent_of(list: u64, key: u64) -> Extent {
+fn extent_of(list: u64, key: u64) -> Extent {
     let n = within(list, 1000, 0, 31);
     if n == 0 {
         return Extent {
@@ -120,7 +120,7 @@ pub fn file_of(d: Draws, extent: Extent) -> File {
 }
 
 // A file that is accepted.
-pub fn sound_file(key: u64, extent: Extent) -> File {
+fn sound_file(key: u64, extent: Extent) -> File {
     let d = Draws {
         key: bits(key, 0),
         odds: 0,
@@ -152,7 +152,7 @@ fn damaged(f: File, key: u64, kind: u64) -> File {
 }
 
 // A file with damage, of which most have wrong fields.
-pub fn damaged_file(key: u64, extent: Extent) -> File {
+fn damaged_file(key: u64, extent: Extent) -> File {
     let kind = within(key, 2, 0, 7);
     if kind < 3 {
         return damaged(sound_file(key, extent), key, kind);
@@ -162,4 +162,12 @@ pub fn damaged_file(key: u64, extent: Extent) -> File {
         odds: within(key, 3, 8, 64),
     };
     file_of(d, extent)
+}
+
+pub fn drawn_file(list: u64, key: u64, sound: bool) -> File {
+    let extent = extent_of(list, key);
+    if sound {
+        return sound_file(key, extent);
+    }
+    damaged_file(key, extent)
 }

@@ -112,19 +112,20 @@ fn report(service: &Service) -> Vec<u64> {
 }
 
 impl Million {
+    /// How many numbers of the first report and the last are equal.
+    pub fn equal(&self) -> usize {
+        let pairs = self.start.iter().zip(&self.end);
+        pairs.filter(|(first, last)| first == last).count()
+    }
+
     /// The lines that the program prints.
     pub fn text(&self) -> String {
-        let equal = if self.start == self.end {
-            "equal, number for number\n"
-        } else {
-            "not equal\n"
-        };
         [
-            &report_text("start", &self.start),
-            &report_text("amid", &self.amid),
-            &report_text("end", &self.end),
-            &counts_text("million", &self.counts),
-            equal,
+            report_text("start", &self.start),
+            report_text("amid", &self.amid),
+            report_text("end", &self.end),
+            counts_text("million", &self.counts),
+            line("equal", [self.equal() as u64]),
         ]
         .concat()
     }

@@ -6,10 +6,10 @@ use Rattle.lists.proofs.equal.Statement.{statement}
 use Rattle.lists.proofs.equal.Tie as tie
 
 abbrev Inv-loop : tie.InvT-loop
-Inv-loop a b i₀ i = Unit {0}
+Inv-loop a b count₀ i₀ count i = Unit {0}
 
 abbrev μ-loop : tie.MeasureT-loop
-μ-loop a b i₀ i = 36 - i
+μ-loop a b count₀ i₀ count i = 36 - i
 
 loop-holds : tie.Need-loop-holds Inv-loop μ-loop
 loop-holds c = search needs
@@ -26,8 +26,8 @@ mul-if1-2 c = search needs
 array-read-if1-2 : tie.Need-array-read-if1-2 Inv-loop μ-loop
 array-read-if1-2 c = search needs
 
-returns : tie.Need-returns Inv-loop μ-loop
-returns c = search needs
+wrapping-add-u64-requires : tie.Need-wrapping-add-u64-requires Inv-loop μ-loop
+wrapping-add-u64-requires c κs = search needs
 
 add-i : tie.Need-add-i Inv-loop μ-loop
 add-i c = search needs
@@ -38,8 +38,8 @@ loop-less c = search needs
 loop-again : tie.Need-loop-again Inv-loop μ-loop
 loop-again c = search needs
 
-returns-2 : tie.Need-returns-2 Inv-loop μ-loop
-returns-2 c = search needs
+returns : tie.Need-returns Inv-loop μ-loop
+returns c = search needs
 
 pub equal-spec : {M : Type 1} → statement M
 equal-spec =
@@ -52,8 +52,8 @@ equal-spec =
     array-read-if1
     mul-if1-2
     array-read-if1-2
-    returns
+    wrapping-add-u64-requires
     add-i
     loop-less
     loop-again
-    returns-2)
+    returns)

@@ -14,11 +14,17 @@ abbrev μ-loop : tie.MeasureT-loop
 loop-holds : tie.Need-loop-holds Inv-loop μ-loop
 loop-holds c = search needs
 
+fresh-requires : tie.Need-fresh-requires Inv-loop μ-loop
+fresh-requires c κs = search needs
+
+new-run-requires : tie.Need-new-run-requires Inv-loop μ-loop
+new-run-requires c κs = search needs
+
 bits-requires : tie.Need-bits-requires Inv-loop μ-loop
 bits-requires c κs = search needs
 
-run-list-requires : tie.Need-run-list-requires Inv-loop μ-loop
-run-list-requires c κs = search needs
+run-part-requires : tie.Need-run-part-requires Inv-loop μ-loop
+run-part-requires c κs = search needs
 
 array-read-wrapping-sub-u64 : tie.Need-array-read-wrapping-sub-u64 Inv-loop μ-loop
 array-read-wrapping-sub-u64 c = search needs
@@ -57,8 +63,10 @@ run-lists-spec =
     Inv-loop
     μ-loop
     loop-holds
+    fresh-requires
+    new-run-requires
     bits-requires
-    run-list-requires
+    run-part-requires
     array-read-wrapping-sub-u64
     array-read-wrapping-sub-u64-2
     wrapping-sub-u64-requires
