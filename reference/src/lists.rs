@@ -15,7 +15,7 @@ use crate::vectors::Call;
 pub use answers::{Answer, LENT_BYTE, LENT_NUMBER, NONE_OVER};
 pub use draws::{Draws, Key};
 pub use files::{sound_file, Size};
-pub use million::{million, Million, HUNG, NUMBERS};
+pub use million::{million, Million, HUNG};
 
 /// How many lists there are.
 pub const LISTS: u64 = 2_000;
@@ -61,20 +61,24 @@ pub fn list_digest(steps: &[Step]) -> u64 {
     digest(steps.iter().flat_map(values))
 }
 
+/// All lists, the same each time.
+pub fn all_lists() -> Vec<Vec<Step>> {
+    (0..LISTS).map(list).collect()
+}
+
 /// What the program prints.
-pub fn text() -> String {
+pub fn text(lists: &[Vec<Step>], million: &Million) -> String {
     let mut lines = String::new();
     let mut counts = [0; ANSWERS];
-    for place in 0..LISTS {
-        let steps = list(place);
+    for (place, steps) in lists.iter().enumerate() {
         let before = counts[0];
-        for step in &steps {
+        for step in steps {
             counts[step.answer.number as usize] += 1;
         }
         let accepted = counts[0] - before;
-        lines += &line("list", [place, accepted, list_digest(&steps)]);
+        lines += &line("list", [place as u64, accepted, list_digest(steps)]);
     }
-    lines + &counts_text("answer", &counts) + &million().text()
+    lines + &counts_text("answer", &counts) + &million.text()
 }
 
 /// A name, and numbers behind it.
@@ -95,6 +99,6 @@ fn counts_text(name: &str, counts: &Counts) -> String {
 pub fn files() -> Vec<OutputFile> {
     vec![OutputFile {
         name: "stdout",
-        bytes: text().into_bytes(),
+        bytes: text(&all_lists(), &million()).into_bytes(),
     }]
 }

@@ -8,7 +8,7 @@ use crate::file_cases::digest;
 use crate::refusal::Refusal;
 use crate::report::ROW;
 use crate::service::Service;
-use crate::tower::Item;
+use crate::tower::{Item, Tower};
 use crate::vectors::number;
 
 /// The key of the tower, the items and the calls.
@@ -32,19 +32,22 @@ const TIDE: u32 = 1_000;
 /// What the program tells of this list.
 #[derive(Clone, Debug, PartialEq, Eq)]
 pub struct Million {
+    /// The tower at the first report, with its items.
+    pub tower: Tower,
     /// The answers of all calls between the first report and the last.
     pub counts: Counts,
-    /// The report before them.
+    /// The first report.
     pub start: Vec<u64>,
     /// A report before the calls that bring the first items back.
     pub amid: Vec<u64>,
-    /// The report after them.
+    /// The last report.
     pub end: Vec<u64>,
 }
 
 /// Runs the list.
 pub fn million() -> Million {
-    let mut service = tower();
+    let mut service = erected();
+    let tower = service.tower().expect("a tower").clone();
     let mut counts = [0; ANSWERS];
     let mut count = |turned: Result<(), Refusal>| counts[number(turned) as usize] += 1;
     let start = report(&service);
@@ -60,6 +63,7 @@ pub fn million() -> Million {
     }
     let end = report(&service);
     Million {
+        tower,
         counts,
         start,
         amid,
@@ -68,7 +72,7 @@ pub fn million() -> Million {
 }
 
 /// A tower under a wind, with its first items hung in rising order.
-fn tower() -> Service {
+fn erected() -> Service {
     let mut service = Service::fresh();
     let draws = Draws { key: KEY, odds: 0 };
     let extent = Extent {
