@@ -1,24 +1,17 @@
 // A call with drawn arguments on a service, and what it hands back as numbers for a digest.
-use crate::arguments::any_number;
-use crate::arguments::direction;
-use crate::arguments::ice_class;
-use crate::arguments::kind_of;
-use crate::arguments::pressure_count;
-use crate::arguments::room;
-use crate::arguments::store_pressures;
-use crate::arguments::structure_factor;
-use crate::arguments::up_to;
-use crate::draws::Draws;
-use crate::draws::bits;
-use crate::draws::once_in;
-use crate::draws::short;
-use crate::draws::word;
-use crate::files::File;
+ghost use Prim.Native.Nat.{_≤_};
 use crate::million::MILLION;
 use crate::million::step_at;
-use crate::towers::drawn_file;
-use crate::towers::item_fields;
-use crate::towers::item_of;
+use draws::DrawnWind;
+use draws::File;
+use draws::arguments::any_number;
+use draws::arguments::held_place;
+use draws::arguments::hung_item;
+use draws::arguments::kind_of;
+use draws::arguments::room;
+use draws::arguments::wind_of;
+use draws::keys::bits;
+use draws::towers::drawn_file;
 use lines::digest::bytes_digest;
 use lines::digest::mix;
 use lines::digest::numbers_digest;
@@ -93,51 +86,35 @@ fn answered(t: Step) -> Called {
     Called { state, told }
 }
 
-pub fn call_erect(s: State, f: File) -> Step {
+pub(crate) fn erect_from(s: State, f: File) -> Step
+    requires { ⌜ f .length ≤ 3000 ⌝ }
+{
     let bytes = f.bytes;
-    let n = up_to(f.length as u64, 3000);
+    let n = f.length;
     erect(s, &bytes[0..n])
-}
-
-fn call_hang(s: State, key: u64, sections: u64) -> Step {
-    let d = Draws { key, odds: 30 };
-    let last = word(std::num::wrapping_sub_u64(sections, 1));
-    hang(s, item_of(item_fields(d, any_number(key), last)))
 }
 
 // A number that is held, or any.
 fn taken(s: State, key: u64) -> u16 {
     let tower = s.tower;
-    let held = tower.held;
-    let any = short(any_number(key));
-    if held == 0 {
-        return any;
-    }
-    let i = (bits(key, 2) % held as u64) as usize;
-    if 64 <= i {
-        return any;
-    }
-    if once_in(key, 1, 2) {
-        return any;
-    }
     let items = tower.items;
+    let i = held_place(key, tower.held);
+    if tower.held <= i {
+        return any_number(key);
+    }
+    if 64 <= i {
+        return any_number(key);
+    }
     let item = items[i];
     item.number
 }
 
-// Of 40 pressures the first are given, most often one per section.
-fn call_wind(s: State, key: u64, legs: Legs, sections: u64) -> Step {
-    let d = Draws { key, odds: 12 };
-    let mut pressures = [0u16; 40];
-    store_pressures(&mut pressures, key, sections);
-    let count = pressure_count(d, sections);
-    set_wind(
-        s,
-        direction(d, legs),
-        ice_class(d),
-        structure_factor(d),
-        &pressures[0..count],
-    )
+fn set_drawn_wind(s: State, w: DrawnWind) -> Step
+    requires { ⌜ w .count ≤ 40 ⌝ }
+{
+    let pressures = w.pressures;
+    let n = w.count;
+    set_wind(s, w.direction, w.ice, w.factor, &pressures[0..n])
 }
 
 fn report_told(s: State, lent: &mut [u64]) -> Told {
@@ -149,7 +126,7 @@ fn report_told(s: State, lent: &mut [u64]) -> Told {
 }
 
 fn call_report(s: State, key: u64, sections: u64) -> Told {
-    let n = up_to(room(key, 6 * (sections % 33)), 220);
+    let n = room(key, 6 * (sections % 33), 220);
     let mut lent = [11_936_128_518_282_651_045u64; 220];
     report_told(s, &mut lent[0..n])
 }
@@ -191,7 +168,7 @@ fn write_told(s: State, lent: &mut [u8]) -> Told {
 }
 
 fn call_write(s: State, key: u64, length: u64) -> Told {
-    let n = up_to(room(key, length), 3000);
+    let n = room(key, length, 3000);
     let mut lent = [165u8; 3000];
     write_told(s, &mut lent[0..n])
 }
@@ -199,17 +176,17 @@ fn call_write(s: State, key: u64, length: u64) -> Told {
 // The calls that may change the state: 3 of 100 erect a tower, 8 a damaged one, 24 hang, 15 take down, 14 set a wind.
 fn changed(s: State, list: u64, kind: u64, key: u64) -> Step {
     if kind < 11 {
-        return call_erect(s, drawn_file(list, key, kind < 3));
+        return erect_from(s, drawn_file(list, key, kind < 3));
     }
     let seen = seen_of(s);
     if kind < 35 {
-        return call_hang(s, key, seen.sections);
+        return hang(s, hung_item(key, seen.sections));
     }
     if kind < 50 {
         return take_down(s, taken(s, key));
     }
     let legs = seen.legs;
-    call_wind(s, key, legs, seen.sections)
+    set_drawn_wind(s, wind_of(key, legs, seen.sections))
 }
 
 // The other calls: 16 of 100 report, 10 check, 10 write.
@@ -225,7 +202,7 @@ fn answer_of(s: State, kind: u64, key: u64) -> Told {
 }
 
 // The call at a place of a list, which is the million's or drawn.
-pub fn call(s: State, list: u64, place: u64) -> Called {
+pub(crate) fn call(s: State, list: u64, place: u64) -> Called {
     if list == MILLION {
         return answered(step_at(s, place));
     }

@@ -6,20 +6,15 @@
 // Then it runs a list of 3 000 000 hangings and take-downs on one tower under a wind, at whose end the items of its start hang again in another
 // order. It prints the report before the list, within it and after it, a line `start`, `amid` or `end` for each section's row and then its digest;
 // the answers, as `million NUMBER COUNT`; and whether the first report and the last are equal.
-mod arguments;
 mod calls;
-mod draws;
-mod files;
 mod million;
-mod sections;
-mod towers;
 
 use crate::calls::call;
-use crate::draws::bits;
 use crate::million::DRAWN_END;
 use crate::million::END;
 use crate::million::MILLION;
 use crate::million::start;
+use draws::keys::bits;
 use libc::STDOUT_FILENO;
 use lines::digest::START;
 use lines::digest::mix;
