@@ -34,8 +34,8 @@ struct Extent {
     items: u64,
 }
 
-// The towers of a list have up to three sections and four items, or up to 64 items, or up to 32 sections. The last place is beyond those of the
-// list's calls.
+// The towers of a list have up to three sections and four items, or up to 64 items, or up to 32 sections. The list's place 1000 is beyond those of
+// its calls.
 fn extent_of(list: u64, key: u64) -> Extent {
     let n = within(list, 1000, 0, 31);
     if n == 0 {
@@ -136,7 +136,7 @@ fn sound_file(key: u64, extent: Extent) -> File {
     file_of(d, extent)
 }
 
-// A file with a byte that is any, with bytes behind its end, or cut.
+// The file with a byte that is any, with bytes behind its end, or cut.
 fn damaged(f: File, key: u64, kind: u64) -> File {
     let length = f.length;
     if length == 0 {
@@ -159,7 +159,7 @@ fn damaged(f: File, key: u64, kind: u64) -> File {
     File { length, bytes }
 }
 
-// A file with damage, of which most have wrong fields.
+// A file with damage; most have wrong fields.
 fn damaged_file(key: u64, extent: Extent) -> File {
     let kind = within(key, 2, 0, 7);
     if kind < 3 {

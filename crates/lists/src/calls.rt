@@ -125,6 +125,7 @@ fn report_told(s: State, lent: &mut [u64]) -> Told {
     }
 }
 
+// All lent bytes, those of the lent numbers too, are 165 before.
 fn call_report(s: State, key: u64, sections: u64) -> Told {
     let n = room(key, 6 * (sections % 33), 220);
     let mut lent = [11_936_128_518_282_651_045u64; 220];
@@ -173,7 +174,7 @@ fn call_write(s: State, key: u64, length: u64) -> Told {
     write_told(s, &mut lent[0..n])
 }
 
-// The calls that may change the state: 3 of 100 erect a tower, 8 a damaged one, 24 hang, 15 take down, 14 set a wind.
+// The calls that may change the state: of 100 calls 3 erect from a sound file, 8 from a damaged one, 24 hang, 15 take down, 14 set a wind.
 fn changed(s: State, list: u64, kind: u64, key: u64) -> Step {
     if kind < 11 {
         return erect_from(s, drawn_file(list, key, kind < 3));
@@ -189,7 +190,7 @@ fn changed(s: State, list: u64, kind: u64, key: u64) -> Step {
     set_drawn_wind(s, wind_of(key, legs, seen.sections))
 }
 
-// The other calls: 16 of 100 report, 10 check, 10 write.
+// The others: of 100 calls 16 report, 10 check, 10 write.
 fn answer_of(s: State, kind: u64, key: u64) -> Told {
     let seen = seen_of(s);
     if kind < 80 {

@@ -4,8 +4,9 @@
 // came over all lists, 0 for an accepted call:
 //     answer NUMBER COUNT
 // Then it runs a list of 3 000 000 hangings and take-downs on one tower under a wind, at whose end the items of its start hang again in another
-// order. It prints the report before the list, within it and after it, a line `start`, `amid` or `end` for each section's row and then its digest;
-// the answers, as `million NUMBER COUNT`; and whether the first report and the last are equal.
+// order. It prints the report before the list, within it and after it, a line `start`, `amid` or `end` for each section's row and then a digest;
+// how often each answer came, as `million NUMBER COUNT`; and last, as `equal COUNT`, how many of the 36 numbers of the first report and the last are
+// equal.
 mod calls;
 mod million;
 
@@ -103,7 +104,7 @@ fn run_lists() -> [u64; 23] {
     counts
 }
 
-// A row for each of six sections.
+// A line for each row.
 fn print_rows(name: &[u8], rows: &[u64]) {
     let mut at: usize = 0;
     while 6 <= rows.len() - at {
@@ -113,6 +114,7 @@ fn print_rows(name: &[u8], rows: &[u64]) {
     }
 }
 
+// The report of six sections.
 fn rows_of(s: State) -> [u64; 36] {
     let mut rows = [0u64; 36];
     report(s, &mut rows);
@@ -136,7 +138,7 @@ fn equal(a: [u64; 36], b: [u64; 36]) -> u64 {
     count
 }
 
-// The end of the million's list that starts with this state.
+// The million's list from this state on.
 fn run_million(state: State) -> Run {
     let counts = [0u64; 23];
     let run = run_part(new_run(state, counts), MILLION, 0, DRAWN_END);

@@ -1,4 +1,4 @@
-// A list of 3 000 000 hangings and take-downs on one tower, at whose end the items of its start hang again. A million of them and more are accepted.
+// A list of 3 000 000 hangings and take-downs on one tower, of which a million and more are accepted. At its end the items of its start hang again.
 use crate::calls::erect_from;
 use draws::keys::bits;
 use draws::towers::bare_file;
@@ -64,8 +64,6 @@ pub(crate) fn step_at(s: State, place: u64) -> Step {
     if place < CLEARED {
         return take_down(s, (place - DRAWN_END) as u16);
     }
-    hang(
-        s,
-        numbered((std::num::wrapping_sub_u64(END - 1, place) % 12) as u16),
-    )
+    let number = std::num::wrapping_sub_u64(END - 1, place) % 12;
+    hang(s, numbered(number as u16))
 }

@@ -1,7 +1,10 @@
 //! The drawn lists of calls: what they cover.
 
 use reference::areas::{gross_face_area, solid_area};
-use reference::lists::{all_lists, list, list_digest, Step, ANSWERS, CALLS, LISTS, NONE_OVER};
+use reference::file_cases::digest;
+use reference::lists::{
+    all_lists, list, list_digest, Step, ANSWERS, CALLS, LENT_BYTE, LENT_NUMBER, LISTS, NONE_OVER,
+};
 use reference::refusal::Refusal;
 use reference::report::ROW;
 use reference::service::Service;
@@ -194,6 +197,31 @@ fn rooms_are_just_enough_and_one_short() {
     assert!(counts
         .keys()
         .all(|&(_, beside, number)| (beside < 0) == (number == 22) || number == 21));
+}
+
+/// All lent elements are in the digest, and a refused call leaves them.
+#[test]
+fn a_refused_report_or_write_leaves_what_is_lent() {
+    let refused = lists()
+        .iter()
+        .flatten()
+        .filter(|step| step.answer.number > 0);
+    let mut counts = [0, 0];
+    for step in refused {
+        match step.call {
+            Call::Report(room) => {
+                assert_eq!(step.answer.rest, digest(vec![LENT_NUMBER; room]));
+                counts[0] += 1;
+            }
+            Call::Write(room) => {
+                let lent = vec![LENT_BYTE.into(); room].into_iter();
+                assert_eq!(step.answer.rest, digest(lent.chain([0])));
+                counts[1] += 1;
+            }
+            _ => {}
+        }
+    }
+    assert!(counts.iter().all(|count| *count >= 1_000), "{counts:?}");
 }
 
 #[test]
