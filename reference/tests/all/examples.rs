@@ -125,3 +125,18 @@ fn the_session_is_answered_as_stored() {
     }
     assert!(answers == expected, "lines are missing or too many");
 }
+
+/// The README shows a session to paste, and behind it the answers.
+#[test]
+fn the_readme_has_the_answers_to_its_session() {
+    let readme = Path::new(env!("CARGO_MANIFEST_DIR")).join("../README.md");
+    let readme = std::fs::read_to_string(readme).expect("a README");
+    let mut lines = readme.lines().map(str::trim_start);
+    assert!(lines.any(|line| line == "./towerd <<'END'"));
+    let text = |lines: Vec<&str>| lines.iter().map(|line| format!("{line}\n")).collect();
+    let requests: String = text(lines.by_ref().take_while(|&line| line != "END").collect());
+    assert_eq!(requests.lines().count(), 9);
+    let shown = lines.skip_while(|line| line.is_empty());
+    let shown: String = text(shown.take_while(|line| !line.is_empty()).collect());
+    assert_eq!(session(requests.as_bytes()), shown.into_bytes());
+}
