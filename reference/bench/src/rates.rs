@@ -138,34 +138,36 @@ pub fn on_tower(program: &str, timed: &TimedTower) -> Result<[(&'static str, Rat
 pub struct Long {
     /// Each million of them.
     pub millions: Vec<Rate>,
-    /// Hangings and take-downs, and reports: of a fresh service, and of this one
-    /// after the last million.
+    /// Hangings and take-downs, and reports: of a fresh tower on another service, and
+    /// of this one after the last million.
     pub beside_fresh: [[Rate; 2]; 2],
 }
 
 /// The text of the report is the same before the first one, after the last one and
-/// on the fresh service. `each` is told of each million.
+/// on the fresh tower. `each` is told of each million.
 pub fn long(
     program: &str,
     timed: &TimedTower,
     mut each: impl FnMut(usize, Rate),
 ) -> Result<Long, String> {
-    with_service(program, |piped| {
-        set_up(piped, timed)?;
-        let hangings = hangings(timed.sections());
-        let mut millions = Vec::new();
-        for place in 1..=MILLIONS {
-            let rate = stream(piped, &hangings, MILLION)?;
-            each(place, rate);
-            millions.push(rate);
-        }
-        let beside_fresh = with_service(program, |fresh| {
+    // both start and are used now: how a process lies in memory shows more than
+    // the age of its tower
+    with_service(program, |fresh| {
+        with_service(program, |piped| {
             set_up(fresh, timed)?;
-            both_by_turns([fresh, piped], timed)
-        })?;
-        Ok(Long {
-            millions,
-            beside_fresh,
+            set_up(piped, timed)?;
+            let hangings = hangings(timed.sections());
+            let mut millions = Vec::new();
+            for place in 1..=MILLIONS {
+                let rate = stream(piped, &hangings, MILLION)?;
+                each(place, rate);
+                millions.push(rate);
+            }
+            set_up(fresh, timed)?;
+            Ok(Long {
+                millions,
+                beside_fresh: both_by_turns([fresh, piped], timed)?,
+            })
         })
     })
 }
@@ -180,9 +182,9 @@ impl Long {
         [
             ("slowest million of ten", *slowest),
             ("fastest million of ten", *fastest),
-            ("fresh service: hang, take down", hangings[0]),
+            ("fresh tower: hang, take down", hangings[0]),
             ("after ten million: hang, take down", hangings[1]),
-            ("fresh service: report", reports[0]),
+            ("fresh tower: report", reports[0]),
             ("after ten million: report", reports[1]),
         ]
     }

@@ -23,7 +23,7 @@ pipe: starts the service program and prints how many requests a second it answer
 through a pipe: hangings and take-downs, reports, and round trips, each of which
 waits for the last answer; then ten million hangings and take-downs on one
 service, the slowest and the fastest million of them, and its rates after them
-beside those of a fresh service. Every answer is compared.
+beside those of a fresh tower. Every answer is compared.
 
 Without one of the four words all. All figures but those of the ten million are
 the best of several repetitions in one run. Status 1 if a number, a byte or an
