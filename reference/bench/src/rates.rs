@@ -150,8 +150,8 @@ pub fn long(
     timed: &TimedTower,
     mut each: impl FnMut(usize, Rate),
 ) -> Result<Long, String> {
-    // both start and are used now: how a process lies in memory shows more than
-    // the age of its tower
+    // both start and are used now: beside a process that was started later, the
+    // reports of this one came out slower
     with_service(program, |fresh| {
         with_service(program, |piped| {
             set_up(fresh, timed)?;
