@@ -9,6 +9,7 @@ mod million;
 
 use crate::file_cases::digest;
 use crate::outputs::OutputFile;
+use crate::refusal::ANSWERS;
 use crate::service::Service;
 use crate::vectors::Call;
 
@@ -22,9 +23,6 @@ pub const LISTS: u64 = 2_000;
 
 /// How many calls each of them has.
 pub const CALLS: u64 = 100;
-
-/// The answers are 0 and the 22 refusals.
-pub const ANSWERS: usize = 23;
 
 /// The key of all lists.
 const ALL_LISTS: Key = Key(1);

@@ -1,4 +1,4 @@
-//! The 22 refusals of document 01.
+//! The refusals of document 01.
 
 /// The refusals, each with its meaning as documentation and as text.
 macro_rules! refusals {
@@ -10,6 +10,9 @@ macro_rules! refusals {
         }
 
         impl Refusal {
+            /// All of them, by their numbers.
+            pub const ALL: &'static [Refusal] = &[$(Refusal::$name,)*];
+
             /// Document 01's sentence.
             pub fn meaning(self) -> &'static str {
                 match self {
@@ -44,6 +47,9 @@ refusals! {
     NoWind = 21, "Report or check finds no wind.";
     LentTooShort = 22, "The lent output has fewer elements than the answer fills.";
 }
+
+/// How many answers there are: 0 for an accepted call, and each refusal's number.
+pub const ANSWERS: usize = Refusal::ALL.len() + 1;
 
 impl Refusal {
     /// Document 01's number.

@@ -155,7 +155,9 @@ impl Vectors {
         let (files, calls) = (self.file_refusals(), self.call_refusals());
         let hosts = self.host_refusals();
         let no_file = (2..=13).filter(|number| !files.contains_key(number));
-        let of_calls = [1].into_iter().chain(9..=12).chain(14..=22);
+        let of_files_alone = |number: &u32| (2..=8).contains(number) || *number == 13;
+        let numbers = Refusal::ALL.iter().map(|refusal| refusal.number());
+        let of_calls = numbers.filter(|number| !of_files_alone(number));
         let no_call = of_calls.filter(|number| !calls.contains_key(number));
         let of_hosts = [0, 2].into_iter().chain(15..=20).chain([22]);
         let no_host = of_hosts.filter(|number| !hosts.contains_key(number));

@@ -2,6 +2,7 @@ pub mod Bools
 pub mod Order
 pub mod Arithmetic
 pub mod Compare
+pub mod Examples
 pub mod Ceiling
 pub mod Sums
 pub mod Value

@@ -4,3 +4,4 @@ pub mod Stepping
 pub mod Answering
 pub mod Responding
 pub mod Sessions
+pub mod Examples

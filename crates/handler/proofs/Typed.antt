@@ -1,16 +1,14 @@
 -- Arguments that fit their types.
-use Prim.Native.Nat.{ℕ, _+_, _-_, _^_, _≤_, _<_}
+use Prim.Native.Nat.{ℕ, _+_, _-_, _≤_, _<_}
 use mathlib.Core.Path.{_≡_, refl, sym, _∙_}
 use mathlib.Core.Bool.{Bool, true, false, _&&_}
 use mathlib.Core.List.{List}
 use native.Mathlib.Omega.{arith}
 use lib.ListN.{length, getD, take, drop, set, length-drop, length-set}
 use lib.Seq.{take-all}
-use borrow.Author.Tests.{ltb-true}
-use Rattle.exact.proofs.Bools.{clash, and-split, and-join}
-use Rattle.model.specs.declared.Item.{Item}
+use Rattle.exact.proofs.Bools.{clash, and-join}
 use Rattle.model.specs.Lists.{allOf}
-use Rattle.model.specs.Calls.{bits, typedItem}
+use Rattle.model.specs.Calls.{bits}
 use Rattle.model.proofs.Lists.{all-more, all-fails}
 use Rattle.file_fields.proofs.Answered.{rest, rest-is}
 use Rattle.service.proofs.Filled.{copied-more}
@@ -34,33 +32,6 @@ upTo5 l = upTo4 l && bits 16 (getD l 4 0)
 
 abbrev pub upTo6 : List ℕ → Bool
 upTo6 l = upTo5 l && bits 16 (getD l 5 0)
-
-pub record ItemBounds (it : Item) : Type 0 where
-  pub number : it .number < 2 ^ 16
-  pub section : it .section < 2 ^ 8
-  pub width : it .width .0 < 2 ^ 32
-  pub length : it .length .0 < 2 ^ 32
-  pub bare : it .bare < 2 ^ 16
-  pub iced : it .iced < 2 ^ 16
-  pub position : it .position < 2 ^ 16
-
-pub item-bounds : (it : Item) → typedItem it ≡ true → ItemBounds it
-item-bounds it h =
-    let g6 : _ = and-split _ (bits 16 (it .position)) h in
-    let g5 : _ = and-split _ (bits 16 (it .iced)) (g6 .0) in
-    let g4 : _ = and-split _ (bits 16 (it .bare)) (g5 .0) in
-    let g3 : _ = and-split _ (bits 32 (it .length .0)) (g4 .0) in
-    let g2 : _ = and-split _ (bits 32 (it .width .0)) (g3 .0) in
-    let g1 : _ = and-split (bits 16 (it .number)) (bits 8 (it .section)) (g2 .0) in
-    record {
-      number = ltb-true _ _ (g1 .0);
-      section = ltb-true _ _ (g1 .1);
-      width = ltb-true _ _ (g2 .1);
-      length = ltb-true _ _ (g3 .1);
-      bare = ltb-true _ _ (g4 .1);
-      iced = ltb-true _ _ (g5 .1);
-      position = ltb-true _ _ (g6 .1);
-    }
 
 -- numbers that stand from a place i on
 pub stored-rest : (w : ℕ) (l out : List ℕ) (i : ℕ) {r : Bool} → Stored w (rest l i) out r

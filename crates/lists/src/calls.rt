@@ -19,7 +19,6 @@ use model::Answer;
 use model::CheckAnswer;
 use model::Legs;
 use model::WriteAnswer;
-use model::numbers::refusal_number;
 use service::State;
 use service::Step;
 use service::answers::check;
@@ -31,10 +30,9 @@ use service::changes::set_wind;
 use service::changes::take_down;
 use tower_file::file::file_length;
 
-// What a call hands back beside the state: document 01's number of its answer, 0 where it is accepted, and a number for all else, lent elements
-// included.
+// What a call hands back beside the state: its answer, and a number for all else, lent elements included.
 pub struct Told {
-    pub answer: u64,
+    pub answer: Answer,
     pub rest: u64,
 }
 
@@ -69,20 +67,10 @@ fn seen_of(s: State) -> Seen {
     }
 }
 
-fn answer_number(a: Answer) -> u64 {
-    match a {
-        Answer::Accepted => 0,
-        Answer::Refused(e) => refusal_number(e) as u64,
-    }
-}
-
 fn answered(t: Step) -> Called {
     let state = t.state;
     let answer = t.answer;
-    let told = Told {
-        answer: answer_number(answer),
-        rest: 0,
-    };
+    let told = Told { answer, rest: 0 };
     Called { state, told }
 }
 
@@ -120,7 +108,7 @@ fn set_drawn_wind(s: State, w: DrawnWind) -> Step
 fn report_told(s: State, lent: &mut [u64]) -> Told {
     let answer = report(s, lent);
     Told {
-        answer: answer_number(answer),
+        answer,
         rest: numbers_digest(lent),
     }
 }
@@ -136,15 +124,15 @@ fn call_report(s: State, key: u64, sections: u64) -> Told {
 fn check_told(a: CheckAnswer) -> Told {
     match a {
         CheckAnswer::Over(i) => Told {
-            answer: 0,
+            answer: Answer::Accepted,
             rest: i as u64,
         },
         CheckAnswer::NoneOver => Told {
-            answer: 0,
+            answer: Answer::Accepted,
             rest: 32,
         },
         CheckAnswer::Refused(e) => Told {
-            answer: refusal_number(e) as u64,
+            answer: Answer::Refused(e),
             rest: 0,
         },
     }
@@ -153,11 +141,11 @@ fn check_told(a: CheckAnswer) -> Told {
 fn write_answer_told(a: WriteAnswer, lent: u64) -> Told {
     match a {
         WriteAnswer::Written(n) => Told {
-            answer: 0,
+            answer: Answer::Accepted,
             rest: mix(lent, n as u64),
         },
         WriteAnswer::Refused(e) => Told {
-            answer: refusal_number(e) as u64,
+            answer: Answer::Refused(e),
             rest: mix(lent, 0),
         },
     }

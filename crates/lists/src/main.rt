@@ -7,6 +7,11 @@
 // order. It prints the report before the list, within it and after it, a line `start`, `amid` or `end` for each section's row and then a digest;
 // how often each answer came, as `million NUMBER COUNT`; and last, as `equal COUNT`, how many of the 36 numbers of the first report and the last are
 // equal.
+ghost use mathlib.Core.Path.{_≡_};
+ghost use Prim.Native.Nat.{_+_, _%_, _^_};
+ghost use lib.ListN.{getD, set};
+ghost use Rattle.model.specs.Answers.{answerNumber};
+
 mod calls;
 mod million;
 
@@ -20,6 +25,9 @@ use libc::STDOUT_FILENO;
 use lines::digest::START;
 use lines::digest::mix;
 use lines::digest::numbers_digest;
+use model::Answer;
+use model::numbers::ANSWERS;
+use model::numbers::answer_number;
 use service::State;
 use service::answers::report;
 use service::whole::fresh;
@@ -28,7 +36,7 @@ use service::whole::fresh;
 struct Run {
     state: State,
     digest: u64,
-    counts: [u64; 23],
+    counts: [u64; ANSWERS],
 }
 
 fn print_line(name: &[u8], numbers: &[u64]) {
@@ -40,8 +48,8 @@ fn print_line(name: &[u8], numbers: &[u64]) {
     io::write_all(STDOUT_FILENO, b"\n");
 }
 
-fn print_counts(name: &[u8], counts: [u64; 23]) {
-    for i in 0usize..23 {
+fn print_counts(name: &[u8], counts: [u64; ANSWERS]) {
+    for i in 0usize..ANSWERS {
         let count = counts[i];
         if 0 < count {
             let line = [i as u64, count];
@@ -50,15 +58,17 @@ fn print_counts(name: &[u8], counts: [u64; 23]) {
     }
 }
 
-// One more answer of this number.
-fn counted(counts: [u64; 23], answer: u64) -> [u64; 23] {
+// One more of this answer.
+fn counted(counts: [u64; ANSWERS], a: Answer) -> [u64; ANSWERS]
+    ensures { λ r. ⌜ r ≡ set counts (answerNumber a) ((getD counts (answerNumber a) 0 + 1) % 2 ^ 64) ⌝ }
+{
     let mut more = counts;
-    let i = (answer % 23) as usize;
+    let i = answer_number(a) as usize;
     more[i] = std::num::wrapping_add_u64(more[i], 1);
     more
 }
 
-fn new_run(state: State, counts: [u64; 23]) -> Run {
+fn new_run(state: State, counts: [u64; ANSWERS]) -> Run {
     Run {
         state,
         digest: START,
@@ -73,8 +83,9 @@ fn called(r: Run, list: u64, place: u64) -> Run {
     let state = called.state;
     let told = called.told;
     let counts = r.counts;
-    let counts = counted(counts, told.answer);
-    let digest = mix(mix(r.digest, told.answer), told.rest);
+    let answer = told.answer;
+    let counts = counted(counts, answer);
+    let digest = mix(mix(r.digest, answer_number(answer) as u64), told.rest);
     Run {
         state,
         digest,
@@ -91,8 +102,8 @@ fn run_part(r: Run, list: u64, from: u64, to: u64) -> Run {
     run
 }
 
-fn run_lists() -> [u64; 23] {
-    let mut counts = [0u64; 23];
+fn run_lists() -> [u64; ANSWERS] {
+    let mut counts = [0u64; ANSWERS];
     for place in 0u64..2000 {
         let run = run_part(new_run(fresh(), counts), bits(1, place), 0, 100);
         let more = run.counts;
@@ -140,7 +151,7 @@ fn equal(a: [u64; 36], b: [u64; 36]) -> u64 {
 
 // The million's list from this state on.
 fn run_million(state: State) -> Run {
-    let counts = [0u64; 23];
+    let counts = [0u64; ANSWERS];
     let run = run_part(new_run(state, counts), MILLION, 0, DRAWN_END);
     let amid = rows_of(run.state);
     print_report(b"amid", &amid);

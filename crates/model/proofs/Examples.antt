@@ -37,10 +37,6 @@ machine-examples =
       turned-down = refl;
       order = refl;
       second-wind = refl;
-      anew = refl;
-      typed-number = refl;
-      untyped-number = refl;
-      untyped-byte = refl;
       valid-square = record {
         tower = record { count = refl; sections = refl; held = refl; items = refl; numbers = refl };
         accepted = refl;

@@ -12,6 +12,7 @@ pub mod Rows
 pub mod RowsFit
 pub mod Samples
 pub mod Examples
+pub mod StatementExamples
 pub mod FileRefusals
 pub mod FileLength
 pub mod Readings
@@ -22,5 +23,6 @@ pub mod RoundTrips
 pub mod Says
 pub mod Refused
 pub mod HostCall
+pub mod Typed
 pub mod Reached
 pub mod NewlyErected

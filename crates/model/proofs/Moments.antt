@@ -110,10 +110,15 @@ module _ (f : ℕ → ℕ) (x : ℕ → Term) where
 
   -- the excess of a weighted sum, from the band of each number
   sum-excess : (margin n : ℕ) → 0 < n → ((j : ℕ) → j < n → Reported margin (f j) (x j))
-      → ExcessBelow (listTo x n) (sumTo (λ j. f j * x j .arm) n) (margin * sumTo (λ j. x j .arm) n)
+      → ExcessBelow (listTo x n) (sumTo (λ j. f j * x j .arm) n) (margin * arms (listTo x n))
   sum-excess margin n p h =
       let e : 0 < length (listTo x n) = rw (length-listTo x n) p in
-      rw (← weighted-listTo n, ← arms-listTo n) (excess-below e (forall-listTo f x n h))
+      rw (← weighted-listTo n) (excess-below e (forall-listTo f x n h))
+
+-- the sum of the arms is that of the moment's terms
+pub arms-are : (t : Tower) (w : Wind) (n : ℕ) → arms (momentTerms t w n) ≡ armsTo t n .0
+unfolding momentTerms armsTo
+arms-are t w n = arms-listTo (λ j. 0) (λ j. record { exact = exactAt t w j; arm = arm (heightAt t) j n .0 }) n
 
 module _ (t : Tower) (w : Wind) (v : ValidWind t w) (n : ℕ) (within : n ≤ length (t .sections)) where
   reported-at : (margin : ℕ) → 0 < margin → (a : ℕ → ℕ) → ((j : ℕ) → j < n → 0 < a j)
@@ -129,16 +134,17 @@ module _ (t : Tower) (w : Wind) (v : ValidWind t w) (n : ℕ) (within : n ≤ le
       let e : sumTo (λ j. f j * 1) n ≡ sumTo f n = sumTo-same _ _ n (λ j r. omega arith) in
       rw (← e)
       (subst (λ (k : ℕ). ExcessBelow (listTo (λ j. record { exact = exactAt t w j; arm = 1 }) n) (sumTo (λ j. f j * 1) n) (margin * k))
-      (sumTo-ones n)
+      (arms-listTo f (λ j. record { exact = exactAt t w j; arm = 1 }) n ∙ sumTo-ones n)
       (sum-excess f (λ j. record { exact = exactAt t w j; arm = 1 }) margin n q (reported-at margin p (λ _. 1) (λ j r. omega arith))))
 
   -- the excess of a moment is never negative and below the margin times the sum of its arms
   pub moment-excess : (margin : ℕ) → 0 < margin → 0 < n → ExcessBelow (momentTerms t w n) (momentAt t w n .0) (margin * armsTo t n .0)
-  unfolding momentTerms moment armsTo
+  unfolding momentTerms moment
   moment-excess margin p q =
-      sum-excess (λ j. forceAt t w j .0) (λ j. record { exact = exactAt t w j; arm = arm (heightAt t) j n .0 }) margin n q
+      rw (← arms-are t w n)
+      (sum-excess (λ j. forceAt t w j .0) (λ j. record { exact = exactAt t w j; arm = arm (heightAt t) j n .0 }) margin n q
       (reported-at margin p (λ j. arm (heightAt t) j n .0)
-      (λ j r. arm-positive (heightAt t) j n (let k : _ = height-at t w v j (omega arith) in omega arith)))
+      (λ j r. arm-positive (heightAt t) j n (let k : _ = height-at t w v j (omega arith) in omega arith))))
 
   -- the statements are about something: each term has fractions on either side
   pub lows : (a : ℕ → ℕ) → Forall₂ Low (listTo (λ j. whole 0) n) (listTo (λ j. record { exact = exactAt t w j; arm = a j }) n)

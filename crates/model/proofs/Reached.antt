@@ -23,6 +23,7 @@ use Rattle.model.specs.Valid.{itemFits, distinct, ValidTower, ValidWind,
 use Rattle.exact.proofs.Bools.{and-split, and-join}
 use Rattle.model.proofs.Lists.{all-grow, all-weaker, all-kept, length-kept}
 use Rattle.model.proofs.Distinct.{distinct-more, distinct-kept}
+use Rattle.model.proofs.Typed.{item-bounds, bounds-typed}
 use Rattle.model.proofs.Sections.{InRange, in-range, within-range, item-facts}
 use Rattle.model.proofs.Forces.{refuse-none, wind-facts}
 use Rattle.model.proofs.Accepted.{accepted-valid}
@@ -76,10 +77,6 @@ module _ (t : Tower) (w : Option Wind) (it : Item) where
   pub hang-accepted : HangFacts t it → hangRefusal (standing t w) it ≡ 0
   hang-accepted h = rw (lt-leb _ _ (h .room), h .new, lt-leb _ _ (h .there), h .fields)
 
--- the number of an item of its type
-number-typed : (it : Item) → typedItem it ≡ true → bits 16 (it .number) ≡ true
-number-typed it h = and-split (bits 16 (it .number)) _ (simp and-assoc at h) .0
-
 -- call by call
 erect-valid : (m : State) (p : Parsed Tower) → ((t : Tower) (rest : List ℕ) → p ≡ got t rest → ValidTower t) → ValidState m → ValidState (erected m p)
 erect-valid m (got t rest) h v = calm (h t rest refl)
@@ -115,7 +112,7 @@ wind-valid (standing t old) w v =
 pub step-valid : (m : State) (c : Call) → typed c ≡ true → ValidState m → ValidState (step m c)
 unfolding erectStep
 step-valid m (erect file) h v = erect-valid m (readFile file) (λ t rest e. accepted-valid file h e) v
-step-valid m (hang it) h v = hang-valid m it (number-typed it h) v
+step-valid m (hang it) h v = hang-valid m it (lt-ltb _ _ (item-bounds it h .number)) v
 step-valid m (takeDown n) h v = down-valid m n v
 step-valid m (wind w) h v = wind-valid m w v
 step-valid m (report lent) h v = v
@@ -129,23 +126,27 @@ run-valid m (c ∷ cs) h v =
     run-valid (step m c) cs (k .1) (step-valid m c (k .0) v)
 
 -- a number in a range that ends below 2 to the w
+range-below : (w : ℕ) (r : Range) {x : ℕ} → r .high < 2 ^ w → InRange r x → x < 2 ^ w
+range-below w r b h = omega (arith, h .high)
+
 range-typed : (w : ℕ) (r : Range) (x : ℕ) → r .high < 2 ^ w → InRange r x → bits w x ≡ true
-range-typed w r x b h = lt-ltb x (2 ^ w) (omega (arith, h .high))
+range-typed w r x b h = lt-ltb x (2 ^ w) (range-below w r b h)
 
 -- an item on a tower of n sections, and a wind
 pub valid-item-typed : (n : ℕ) (it : Item) → n ≤ 32 → itemFits n it ≡ true → typedItem it ≡ true
 valid-item-typed n it few h =
     let parts : _ = fit-parts n it h in
     let k : _ = item-facts it (parts .2) in
-    rw (
-      lt-ltb (it .number) (2 ^ 16) (parts .0),
-      lt-ltb (it .section) (2 ^ 8) (omega arith),
-      range-typed 32 itemWidth (it .width .0) (lit< tt) (k .width),
-      range-typed 32 itemLength (it .length .0) (lit< tt) (k .length),
-      range-typed 16 coefficients (it .bare) (lit< tt) (k .bare),
-      range-typed 16 coefficients (it .iced) (lit< tt) (k .iced),
-      range-typed 16 positionFactor (it .position) (lit< tt) (k .position),
-    )
+    bounds-typed it
+    (record {
+      number = parts .0;
+      section = omega arith;
+      width = range-below 32 itemWidth (lit< tt) (k .width);
+      length = range-below 32 itemLength (lit< tt) (k .length);
+      bare = range-below 16 coefficients (lit< tt) (k .bare);
+      iced = range-below 16 coefficients (lit< tt) (k .iced);
+      position = range-below 16 positionFactor (lit< tt) (k .position);
+    })
 
 direction-range : (l : Legs) (k : ℕ) → directionFits l k ≡ true → within directions k ≡ true
 direction-range Three k h = and-split (within directions k) _ h .0

@@ -1,18 +1,20 @@
 -- What the answers of check and write say, taken apart.
-use Prim.Native.Nat.{ℕ, _+_, _<_}
-use mathlib.Core.Path.{_≡_, ap}
+use Prim.Native.Nat.{ℕ, _+_, _≤_, _<_}
+use mathlib.Core.Path.{_≡_, refl, ap}
 use mathlib.Core.Bool.{not}
 use mathlib.Core.Option.{some}
 use native.Mathlib.Omega.{arith}
-use lib.Dec.{eqb, lit<}
+use lib.Dec.{eqb, lit<, lit≤}
 use lib.ListN.{length}
 use borrow.Author.Tests.{eqb-false, ltb-true, lt-ltb, ne-eqb, not-true}
+use Rattle.model.specs.declared.Answer.{Answer}
+use Rattle.model.specs.declared.Answer.the-variants as answer
 use Rattle.model.specs.declared.CheckAnswer.the-variants as check
 use Rattle.model.specs.declared.WriteAnswer.{WriteAnswer}
 use Rattle.model.specs.declared.WriteAnswer.the-variants as write
 use Rattle.model.specs.declared.Refusal.{Refusal}
 use Rattle.model.specs.declared.Refusal.the-variants as refusal
-use Rattle.model.specs.Answers.{refusalNumber}
+use Rattle.model.specs.Answers.{refusalNumber, highestRefusal, answerNumber}
 use Rattle.model.specs.Tower.{Tower, Wind}
 use Rattle.model.specs.Report.{sectionAt, shearAt, exceeds, IsOver}
 use Rattle.model.specs.Machine.{State, standing, checkRefusal, CheckSays, over, none-over, turned-down, writeRefusal, fileIn, WriteSays, written}
@@ -51,30 +53,44 @@ check-refused (turned-down e) = e
 pub write-length : {m : State} {room n : ℕ} → WriteSays m room (write.Written n) → (writeRefusal m room ≡ 0) × (n ≡ length (fileIn m))
 write-length (written e h) = (e, h)
 
--- no refusal has the number 0, which says that a call is accepted
+-- a refusal's number is not 0, which says that a call is accepted, and is at most the highest
+refusal-between : (r : Refusal) → (0 < refusalNumber r) × (refusalNumber r ≤ highestRefusal)
+refusal-between refusal.NoTower = (lit< tt, lit≤ tt)
+refusal-between refusal.FileEnds = (lit< tt, lit≤ tt)
+refusal-between refusal.Legs = (lit< tt, lit≤ tt)
+refusal-between refusal.SectionCount = (lit< tt, lit≤ tt)
+refusal-between refusal.SectionSize = (lit< tt, lit≤ tt)
+refusal-between refusal.GroupCount = (lit< tt, lit≤ tt)
+refusal-between refusal.GroupField = (lit< tt, lit≤ tt)
+refusal-between refusal.BareSolidity = (lit< tt, lit≤ tt)
+refusal-between refusal.ItemCount = (lit< tt, lit≤ tt)
+refusal-between refusal.ItemNumber = (lit< tt, lit≤ tt)
+refusal-between refusal.ItemSection = (lit< tt, lit≤ tt)
+refusal-between refusal.ItemField = (lit< tt, lit≤ tt)
+refusal-between refusal.BytesFollow = (lit< tt, lit≤ tt)
+refusal-between refusal.NoSuchItem = (lit< tt, lit≤ tt)
+refusal-between refusal.Direction = (lit< tt, lit≤ tt)
+refusal-between refusal.IceClass = (lit< tt, lit≤ tt)
+refusal-between refusal.StructureFactor = (lit< tt, lit≤ tt)
+refusal-between refusal.PressureCount = (lit< tt, lit≤ tt)
+refusal-between refusal.Pressure = (lit< tt, lit≤ tt)
+refusal-between refusal.IcedSolidity = (lit< tt, lit≤ tt)
+refusal-between refusal.NoWind = (lit< tt, lit≤ tt)
+refusal-between refusal.OutputShort = (lit< tt, lit≤ tt)
+
 pub refusal-positive : (r : Refusal) → 0 < refusalNumber r
-refusal-positive refusal.NoTower = lit< tt
-refusal-positive refusal.FileEnds = lit< tt
-refusal-positive refusal.Legs = lit< tt
-refusal-positive refusal.SectionCount = lit< tt
-refusal-positive refusal.SectionSize = lit< tt
-refusal-positive refusal.GroupCount = lit< tt
-refusal-positive refusal.GroupField = lit< tt
-refusal-positive refusal.BareSolidity = lit< tt
-refusal-positive refusal.ItemCount = lit< tt
-refusal-positive refusal.ItemNumber = lit< tt
-refusal-positive refusal.ItemSection = lit< tt
-refusal-positive refusal.ItemField = lit< tt
-refusal-positive refusal.BytesFollow = lit< tt
-refusal-positive refusal.NoSuchItem = lit< tt
-refusal-positive refusal.Direction = lit< tt
-refusal-positive refusal.IceClass = lit< tt
-refusal-positive refusal.StructureFactor = lit< tt
-refusal-positive refusal.PressureCount = lit< tt
-refusal-positive refusal.Pressure = lit< tt
-refusal-positive refusal.IcedSolidity = lit< tt
-refusal-positive refusal.NoWind = lit< tt
-refusal-positive refusal.OutputShort = lit< tt
+refusal-positive r = refusal-between r .0
+
+pub refusal-highest : (r : Refusal) → refusalNumber r ≤ highestRefusal
+refusal-highest r = refusal-between r .1
+
+-- and one reaches it
+pub highest-reached : refusalNumber refusal.OutputShort ≡ highestRefusal
+highest-reached = refl
+
+pub answer-highest : (a : Answer) → answerNumber a ≤ highestRefusal
+answer-highest answer.Accepted = lit≤ tt
+answer-highest (answer.Refused r) = refusal-highest r
 
 -- write fills where there is room
 pub write-room : {m : State} {room : ℕ} {r : WriteAnswer} → writeRefusal m room ≡ 0 → WriteSays m room r → r ≡ write.Written (length (fileIn m))

@@ -30,6 +30,10 @@ refusalNumber refusal.IcedSolidity = 20
 refusalNumber refusal.NoWind = 21
 refusalNumber refusal.OutputShort = 22
 
+-- the highest of these numbers
+abbrev pub highestRefusal : ℕ
+highestRefusal = 22
+
 -- 0 where the call is accepted, and else the refusal's number
 abbrev pub answerNumber : Answer → ℕ
 answerNumber answer.Accepted = 0

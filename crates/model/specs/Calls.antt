@@ -37,7 +37,8 @@ pub data Call : Type 0 where
   write : List ℕ → Call
 
 -- the arguments are values of their types: 8 bits for a byte and an item's section, 16 for its number, its thousandths
--- and a pressure, 32 for lengths and the other numbers of a wind, 64 for a number of a report
+-- and a pressure, 32 for lengths and the other numbers of a wind, 64 for a number of a report. That these are the types of the service's
+-- parameters is the law `link-typed` of the crate `service`
 abbrev pub bits : ℕ → ℕ → Bool
 bits w n = ltb n (2 ^ w)
 

@@ -20,7 +20,7 @@ use Rattle.model.specs.Machine.{no-tower, standing}
 use Rattle.model.specs.Report.{exceeds}
 use Rattle.model.specs.Host.{pressuresOf, hostRefusal}
 use Rattle.model.specs.Valid.{ValidWind}
-use Rattle.model.specs.Calls.{Call, erect, hang, takeDown, wind, report, check, write, typed, refusalOf, lentAfter, run, newlyErected}
+use Rattle.model.specs.Calls.{Call, erect, hang, takeDown, wind, report, check, write, refusalOf, lentAfter, run}
 
 -- a file of one section, b by h, of n groups, and of m items
 unfoldable pub fileWith : ℕ → ℕ → ℕ → ℕ → List ℕ → ℕ → List ℕ → List ℕ
@@ -217,12 +217,6 @@ pub record MachineExamples : Type 0 where
   -- a wind replaces the one before it, and stays while items come and go
   pub second-wind : run no-tower (erectFour ++ (steady ∷ wind secondWind ∷ hang (itemOf 7 0 300) ∷ hang (itemOf 8 0 300) ∷ takeDown 7 ∷ []))
       ≡ standing (plainTower (itemOf 8 0 300 ∷ [])) (some secondWind)
-  -- the newly erected tower, with its items in another order
-  pub anew : run no-tower (newlyErected (plainTower (itemOf 7 0 300 ∷ itemOf 8 0 300 ∷ [])) (itemOf 8 0 300 ∷ itemOf 7 0 300 ∷ []) secondWind (replicate 6 0))
-      ≡ standing (plainTower (itemOf 8 0 300 ∷ itemOf 7 0 300 ∷ [])) (some secondWind)
-  pub typed-number : typed (hang (itemOf 65_535 0 300)) ≡ true
-  pub untyped-number : typed (hang (itemOf 65_536 0 300)) ≡ false
-  pub untyped-byte : typed (erect (256 ∷ [])) ≡ false
   -- towers and winds that are valid
   pub valid-square : ValidWind (plainTower (itemOf 7 0 300 ∷ [])) secondWind
   pub valid-triangle : ValidWind triangle (record { direction = 2; ice = 0; factor = 2000; pressures = 5000 ∷ [] })

@@ -10,8 +10,10 @@ pub mod Bytes
 pub mod Report
 pub mod Machine
 pub mod Calls
+pub mod Outcomes
 pub mod Host
 pub mod Valid
 pub mod Samples
 pub mod Examples
+pub mod StatementExamples
 pub mod WholeForm

@@ -1,10 +1,14 @@
-// Document 01's numbers for legs and refusals. specs/Bytes, File and Answers have the same tables.
+// Document 01's numbers for legs, refusals and answers. specs/Bytes, File and Answers have the same tables.
 ghost use mathlib.Core.Path.{_≡_};
-ghost use Rattle.model.specs.Answers.{refusalNumber};
+ghost use Rattle.model.specs.Answers.{refusalNumber, answerNumber};
 ghost use Rattle.model.specs.Bytes.{legsNumber};
 ghost use Rattle.model.specs.File.{legsOf};
+use crate::Answer;
 use crate::Legs;
 use crate::Refusal;
+
+// How many answers there are: 0 for an accepted call, and the refusals' numbers.
+pub const ANSWERS: usize = 23;
 
 // Four for any number but 3.
 pub fn legs_of(n: u32) -> Legs
@@ -51,5 +55,14 @@ pub fn refusal_number(e: Refusal) -> u32
         Refusal::IcedSolidity => 20,
         Refusal::NoWind => 21,
         Refusal::OutputShort => 22,
+    }
+}
+
+pub fn answer_number(a: Answer) -> u32
+    ensures { λ r. ⌜ r ≡ answerNumber a ⌝ }
+{
+    match a {
+        Answer::Accepted => 0,
+        Answer::Refused(e) => refusal_number(e),
     }
 }

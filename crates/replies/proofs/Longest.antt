@@ -2,12 +2,11 @@
 use Prim.Native.Nat.{ℕ, zero, suc, _+_, _*_, _^_, _≤_, _<_}
 use mathlib.Core.List.{List, [], _∷_}
 use native.Mathlib.Omega.{arith}
-use lib.Dec.{lit≤}
+use lib.Dec.{lit<, lit≤}
 use lib.ListN.{length, getD, take, drop, length-append, length-take}
 use lib.Seq.{getD-drop}
-use Rattle.model.specs.declared.Refusal.{Refusal}
-use Rattle.model.specs.declared.Refusal.the-variants as refusal
 use Rattle.model.specs.Answers.{refusalNumber}
+use Rattle.model.proofs.Says.{refusal-highest}
 use Rattle.lines.specs.Text.{decimal}
 use Rattle.lines.proofs.Decimals.{decimal-short}
 use Rattle.lines.proofs.Hexes.{hex-length}
@@ -28,6 +27,9 @@ Moderate reply.NoneOver = Unit {0}
 Moderate (reply.File n) = n ≤ 3000
 Moderate reply.Help = Unit {0}
 Moderate (reply.Wrong f) = Unit {0}
+
+pub largest-moderate : Moderate (reply.Rows 32) × Moderate (reply.Over 31) × Moderate (reply.File 3000)
+largest-moderate = (lit≤ tt, lit< tt, lit≤ tt)
 
 word-short : (n : ℕ) → n < 2 ^ 64 → length (decimal n) ≤ 20
 word-short n h = decimal-short n 19 (omega arith)
@@ -51,30 +53,6 @@ rows-short (suc n) rows h =
     rw length-append
     (omega (arith, row-short 6 rows h, rows-short n (drop 6 rows) (λ i. rw getD-drop (h (6 + i)))))
 
-refusal-small : (e : Refusal) → refusalNumber e ≤ 22
-refusal-small refusal.NoTower = lit≤ tt
-refusal-small refusal.FileEnds = lit≤ tt
-refusal-small refusal.Legs = lit≤ tt
-refusal-small refusal.SectionCount = lit≤ tt
-refusal-small refusal.SectionSize = lit≤ tt
-refusal-small refusal.GroupCount = lit≤ tt
-refusal-small refusal.GroupField = lit≤ tt
-refusal-small refusal.BareSolidity = lit≤ tt
-refusal-small refusal.ItemCount = lit≤ tt
-refusal-small refusal.ItemNumber = lit≤ tt
-refusal-small refusal.ItemSection = lit≤ tt
-refusal-small refusal.ItemField = lit≤ tt
-refusal-small refusal.BytesFollow = lit≤ tt
-refusal-small refusal.NoSuchItem = lit≤ tt
-refusal-small refusal.Direction = lit≤ tt
-refusal-small refusal.IceClass = lit≤ tt
-refusal-small refusal.StructureFactor = lit≤ tt
-refusal-small refusal.PressureCount = lit≤ tt
-refusal-small refusal.Pressure = lit≤ tt
-refusal-small refusal.IcedSolidity = lit≤ tt
-refusal-small refusal.NoWind = lit≤ tt
-refusal-small refusal.OutputShort = lit≤ tt
-
 fault-short : (f : Fault) → length (faultText f) ≤ 25
 fault-short fault.NoRequest = lit≤ tt
 fault-short fault.FewWords = lit≤ tt
@@ -92,7 +70,7 @@ pub reply-short : (rows file : List ℕ) (r : Reply) → ((i : ℕ) → getD row
 unfolding replyText
 reply-short rows file reply.Done h g = lit≤ tt
 reply-short rows file (reply.Refused e) h g =
-    let d : length (decimal (refusalNumber e)) ≤ 20 = word-short _ (omega (arith, refusal-small e)) in
+    let d : length (decimal (refusalNumber e)) ≤ 20 = word-short _ (omega (arith, refusal-highest e)) in
     simp length-append (omega arith)
 reply-short rows file (reply.Rows n) h g =
     let d : length (decimal n) ≤ 20 = word-short n (omega arith) in

@@ -4,18 +4,18 @@ use Rattle.model.specs.Calls.{Call, refusalOf, step, lentBefore, lentAfter}
 use Rattle.model.proofs.Refused.{refused-lent}
 use Rattle.service.specs.declared.State as stored
 use Rattle.service.specs.Held.{stateOf}
-use Rattle.service.specs.Outcomes.{replyNumber, Says, Outcome}
+use Rattle.model.specs.Outcomes.{replyNumber, Says, Outcome}
 use Rattle.service.proofs.Links.{Link, erected, hung, taken-down, wind-set, reported, checked-for, written-out, link-state, link-lent, link-says, says-number}
 
 -- a call that is turned down hands back the very state that it was given
 pub link-untouched : {s s′ : stored.State} {c : Call} {o : Outcome} → Link s c o s′ → (refusalOf (stateOf s) c ≡ 0 → ⊥) → s′ ≡ s
-link-untouched (erected κ file p) h = p .untouched h
-link-untouched (hung p) h = p .untouched h
-link-untouched (taken-down p) h = p .untouched h
-link-untouched (wind-set κ ps p) h = p .untouched h
-link-untouched (reported κ out after p) h = refl
+link-untouched (erected κ file t p) h = p .untouched h
+link-untouched (hung t p) h = p .untouched h
+link-untouched (taken-down t p) h = p .untouched h
+link-untouched (wind-set κ ps t₁ t₂ t₃ t₄ p) h = p .untouched h
+link-untouched (reported κ out after t p) h = refl
 link-untouched (checked-for p) h = refl
-link-untouched (written-out κ out after p) h = refl
+link-untouched (written-out κ out after t p) h = refl
 
 -- the full answer, or the refusal whose condition is met first; where it is refused, state and lent slice are as they were
 pub record OneCall (s : stored.State) (c : Call) (o : Outcome) (s′ : stored.State) : Type 0 where

@@ -1,7 +1,7 @@
 -- The customer's second demand: what the numbers of an accepted report are, and the two ways round of a tower file.
 use Prim.Native.Nat.{ℕ, _+_, _*_, _≤_, _<_}
 use mathlib.Core.Path.{_≡_, refl, ap, sym, subst, _∙_}
-use mathlib.Core.Bool.{true, false, true≢false}
+use mathlib.Core.Bool.{false, true≢false}
 use mathlib.Core.List.{List, [], _++_}
 use mathlib.Core.Option.{Option, none, some}
 use native.Mathlib.Omega.{arith}
@@ -11,14 +11,14 @@ use lib.Dec.{ltb}
 use borrow.Author.Tests.{le-ltb, ltb-false}
 use Rattle.model.specs.declared.WriteAnswer.{WriteAnswer}
 use Rattle.model.specs.declared.WriteAnswer.the-variants as write-answer
-use Rattle.model.specs.Lists.{sumTo, allOf}
+use Rattle.model.specs.Lists.{sumTo}
 use Rattle.model.specs.Tower.{Tower, Wind}
 use Rattle.model.specs.Reading.{Parsed, got, refused}
 use Rattle.model.specs.File.{readFile}
 use Rattle.model.specs.Bytes.{fileOf}
 use Rattle.model.specs.Report.{rowAt, rowsOf, heightAt, areasAt, forceAt, arm, shear, moment}
 use Rattle.model.specs.Machine.{State, standing, erected, erectStep, erectRefusal, fileRefusal, filled, writeOut, writeRefusal, WriteSays, no-tower, reportRefusal, reportOut}
-use Rattle.model.specs.Calls.{Call, typed, report, bits, erect, write}
+use Rattle.model.specs.Calls.{Call, report, erect, write}
 use Rattle.model.specs.Valid.{ValidState, none-standing}
 use Rattle.model.proofs.Forces.{refuse-none}
 use Rattle.model.proofs.Reached.{tower-in, run-valid}
@@ -30,8 +30,8 @@ use Rattle.model.proofs.FileRefusals.{Numbered, number, file-numbered}
 use Rattle.model.proofs.Says.{write-length, write-room}
 use Rattle.service.specs.declared.State as stored
 use Rattle.service.specs.Held.{stateOf}
-use Rattle.service.specs.Outcomes.{Reply, answered, written, replyNumber, Says, by-number, by-write, Outcome}
-use Rattle.service.proofs.Links.{IsFresh, Chain, chain-state, Link, link-state, link-lent, link-says, says-number}
+use Rattle.model.specs.Outcomes.{Reply, answered, written, replyNumber, Says, by-number, by-write, Outcome}
+use Rattle.service.proofs.Links.{IsFresh, Chain, chain-typed, chain-state, Link, link-typed, link-state, link-lent, link-says, says-number}
 use Rattle.service.proofs.Demand3.{number-at}
 
 -- the numbers of section i: the areas of each flow class under the wind's ice, the force, the shear as the sum of the reported forces from the top, and the
@@ -115,23 +115,23 @@ module _ {s s′ : stored.State} {lent : List ℕ} {o : Outcome} (l : Link s (wr
       ap (take n) f ∙ take-at (fileOf t) (drop (length (fileOf t)) lent) n (sym (k .1))
 
 -- a tower file read and written again has the same bytes
-pub demand-2-same-bytes : {s s₁ s₂ : stored.State} {file lent : List ℕ} {o p : Outcome} → allOf (bits 8) file ≡ true
+pub demand-2-same-bytes : {s s₁ s₂ : stored.State} {file lent : List ℕ} {o p : Outcome}
     → Link s (erect file) o s₁ → replyNumber (o .reply) ≡ 0 → Link s₁ (write lent) p s₂ → length file ≤ length lent
     → (p .reply ≡ written (write-answer.Written (length file))) × (p .lent ≡ file ++ drop (length file) lent)
 unfolding erectRefusal erectStep
-demand-2-same-bytes {s = s} {file = file} {lent = lent} {p = p} typed l a k room =
+demand-2-same-bytes {s = s} {file = file} {lent = lent} {p = p} l a k room =
     let g : FileTower (readFile file) = file-tower (readFile file) (file-numbered file) (sym (says-number (link-says l)) ∙ a) in
     let e : _ = link-state l ∙ ap (erected (stateOf s)) (g .is) in
     subst
     (λ (x : List ℕ). length x ≤ length lent → (p .reply ≡ written (write-answer.Written (length x))) × (p .lent ≡ x ++ drop (length x) lent))
-    (same-bytes file typed (g .is)) (written-room k e) room
+    (same-bytes file (link-typed l) (g .is)) (written-room k e) room
 
 -- a tower written and read again has the same sections and items, whatever list of calls led to it
 pub demand-2-same-tower : {f s s₁ s₂ s₃ : stored.State} {cs : List Call} {os : List Outcome} {lent file : List ℕ} {o p : Outcome} {t : Tower} {w : Option Wind} {n : ℕ}
-    → IsFresh f → allOf typed cs ≡ true → Chain f cs os s → stateOf s ≡ standing t w → Link s (write lent) o s₁ → o .reply ≡ written (write-answer.Written n) → file ≡ take n (o .lent)
+    → IsFresh f → Chain f cs os s → stateOf s ≡ standing t w → Link s (write lent) o s₁ → o .reply ≡ written (write-answer.Written n) → file ≡ take n (o .lent)
     → Link s₂ (erect file) p s₃ → (replyNumber (p .reply) ≡ 0) × (stateOf s₃ ≡ standing t none)
 unfolding erectRefusal erectStep
-demand-2-same-tower {s₂ = s₂} {cs = cs} {file = file} {t = t} fresh h ch e l q f k =
-    let v : ValidState (standing t _) = subst ValidState (sym (chain-state no-tower fresh ch) ∙ e) (run-valid no-tower cs h none-standing) in
+demand-2-same-tower {s₂ = s₂} {cs = cs} {file = file} {t = t} fresh ch e l q f k =
+    let v : ValidState (standing t _) = subst ValidState (sym (chain-state no-tower fresh ch) ∙ e) (run-valid no-tower cs (chain-typed ch) none-standing) in
     let g : readFile file ≡ got t [] = ap readFile (f ∙ written-bytes l e q) ∙ same-tower t (tower-in v) in
     (says-number (link-says k) ∙ ap fileRefusal g, link-state k ∙ ap (erected (stateOf s₂)) g)

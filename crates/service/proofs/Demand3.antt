@@ -11,13 +11,12 @@ use lib.Seq.{take-at}
 use borrow.Author.Tests.{ltb-false}
 use Rattle.exact.specs.Number.{Within}
 use Rattle.exact.specs.Sum.{ExcessBelow}
-use Rattle.exact.proofs.Bools.{and-split}
 use Rattle.model.specs.declared.Item.{Item}
 use Rattle.model.specs.Lists.{allOf}
 use Rattle.model.specs.Tower.{Tower, Wind}
 use Rattle.model.specs.Report.{exactAt, rowAt, rowsOf, shearTerms, momentTerms, armsTo}
 use Rattle.model.specs.Machine.{State, no-tower, standing, reportOut, reportRefusal}
-use Rattle.model.specs.Calls.{Call, report, typed, refusalOf, step, lentBefore, lentAfter, run, newlyErected}
+use Rattle.model.specs.Calls.{Call, report, refusalOf, step, lentBefore, lentAfter, run, newlyErected}
 use Rattle.model.specs.Valid.{ValidWind, ValidState, none-standing, windy}
 use Rattle.model.proofs.Forces.{refuse-none, force-within}
 use Rattle.model.proofs.Moments.{shear-excess, moment-excess}
@@ -27,8 +26,8 @@ use Rattle.model.proofs.NewlyErected.{newly-accepted, newly-rows}
 use Rattle.model.proofs.Refused.{refused-state, refused-lent}
 use Rattle.service.specs.declared.State as stored
 use Rattle.service.specs.Held.{stateOf}
-use Rattle.service.specs.Outcomes.{replyNumber, Says, Outcome, isAccepted, lastLent}
-use Rattle.service.proofs.Links.{IsFresh, Link, Chain, none, more, link-state, link-lent, link-says, says-number, chain-state, chain-accepted, chain-lent}
+use Rattle.model.specs.Outcomes.{replyNumber, Says, Outcome, isAccepted, lastLent}
+use Rattle.service.proofs.Links.{IsFresh, Link, Chain, none, more, link-typed, link-state, link-lent, link-says, says-number, chain-state, chain-accepted, chain-lent}
 
 -- the excess of every reported force is never negative and below so many newtons; that of every reported shear below them times the sections down to the foot,
 -- and that of every reported moment below them times the sum of the arms
@@ -147,15 +146,12 @@ entry {c = c} {o = o} m e v l =
           (lent ∙ ap (lentAfter m) q);
     }
 
-each : {s s′ : stored.State} {cs : List Call} {os : List Outcome} (m : State) → stateOf s ≡ m → ValidState m → allOf typed cs ≡ true
-    → Chain s cs os s′ → Each m cs os
-each m e v h none = none-left
-each m e v h (more {c = c} {cs = cs} l ch) =
-    let k : _ = and-split (typed c) (allOf typed cs) h in
-    entry-then (entry m e v l) (each (step m c) (link-state l ∙ ap (λ (x : State). step x c) e) (step-valid m c (k .0) v) (k .1) ch)
+each : {s s′ : stored.State} {cs : List Call} {os : List Outcome} (m : State) → stateOf s ≡ m → ValidState m → Chain s cs os s′ → Each m cs os
+each m e v none = none-left
+each m e v (more {c = c} l ch) =
+    entry-then (entry m e v l) (each (step m c) (link-state l ∙ ap (λ (x : State). step x c) e) (step-valid m c (link-typed l) v) ch)
 
 -- For every list of erect, hang, take-down, wind, report, check and write calls, with any arguments of their types, refused ones included: the list starts from
 -- a fresh service, each call gets the state that the last one left, and document 01's machine is given the same list.
-pub demand-3 : {f s : stored.State} {cs : List Call} {os : List Outcome} → IsFresh f → allOf typed cs ≡ true → Chain f cs os s
-    → Each no-tower cs os × (stateOf s ≡ run no-tower cs)
-demand-3 fresh h ch = (each no-tower fresh none-standing h ch, chain-state no-tower fresh ch)
+pub demand-3 : {f s : stored.State} {cs : List Call} {os : List Outcome} → IsFresh f → Chain f cs os s → Each no-tower cs os × (stateOf s ≡ run no-tower cs)
+demand-3 fresh ch = (each no-tower fresh none-standing ch, chain-state no-tower fresh ch)

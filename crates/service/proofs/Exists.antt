@@ -2,7 +2,7 @@
 -- chain from a fresh service.
 use Prim.Native.Nat.{ℕ, zero, suc, _+_, _≤_, _<_}
 use mathlib.Core.Path.{_≡_, refl, ap, sym, subst, _∙_}
-use mathlib.Core.Bool.{Bool, true, false, not}
+use mathlib.Core.Bool.{Bool, true, false, not, _&&_}
 use mathlib.Core.List.{List, [], _∷_, _++_, List·Permᴰ}
 use mathlib.Core.Option.{none, some}
 use native.Mathlib.Numerals.{add-one}
@@ -47,12 +47,12 @@ use Rattle.service.specs.declared.State as stored
 use Rattle.service.specs.declared.Step.{Step}
 use Rattle.service.specs.Held.{whole, stateOf}
 use Rattle.service.specs.Promises.{Steps, Reports, Writes}
-use Rattle.service.specs.Outcomes.{Outcome}
+use Rattle.model.specs.Outcomes.{Outcome}
 use Rattle.service.proofs.Facts.{not-held, is-held, held-facts, machineTower, machineWind, withHeld, section-count, item-count}
 use Rattle.service.proofs.WaysOut.{turned-down, refusal-of, hang-done, down-done}
 use Rattle.service.proofs.Winds.{all-under-ice, wind-done}
 use Rattle.service.proofs.Erects.{newState, file-accepted}
-use Rattle.service.proofs.Links.{IsFresh, Link, erected, hung, taken-down, wind-set, reported, checked-for, written-out, Chain, none, more}
+use Rattle.service.proofs.Links.{IsFresh, item-passed, Link, erected, hung, taken-down, wind-set, reported, checked-for, written-out, Chain, none, more}
 use Rattle.areas.proofs.Facts.{noItem}
 use Rattle.service.proofs.Represented.{Named, Told, free, told, refusal-for, not-free, padded, length-padded, take-padded, noSection, eightGroups, storedTower, tower-back, counts-stored, sections-long, groups-long, items-long}
 
@@ -254,21 +254,29 @@ pub record Linked (s : stored.State) (c : Call) : Type 0 where
 pub link-exists : (s : stored.State) → Proper s → (c : Call) → typed c ≡ true → Linked s c
 link-exists s p (erect file) h =
     let r : Stepped (erect file) s = erect-step s p file h in
-    record { outcome = _; next = _; link = erected lifetime (lend file) (r .steps); proper = r .proper }
+    record { outcome = _; next = _; link = erected lifetime (lend file) h (r .steps); proper = r .proper }
 link-exists s p (hang it) h =
     let r : Stepped (hang it) s = hang-step s p it in
-    record { outcome = _; next = _; link = hung (r .steps); proper = r .proper }
+    record { outcome = _; next = _; link = hung (item-passed it h) (r .steps); proper = r .proper }
 link-exists s p (takeDown n) h =
     let r : Stepped (takeDown n) s = down-step s p n in
-    record { outcome = _; next = _; link = taken-down (r .steps); proper = r .proper }
+    record { outcome = _; next = _; link = taken-down h (r .steps); proper = r .proper }
 link-exists s p (wind w) h =
     let r : Stepped (wind w) s = wind-step s p w in
-    record { outcome = _; next = _; link = wind-set lifetime (lend (w .pressures)) (r .steps); proper = r .proper }
+    let ps : _ = and-split (bits 32 (w .direction) && bits 32 (w .ice) && bits 32 (w .factor)) _ h in
+    let factor : _ = and-split (bits 32 (w .direction) && bits 32 (w .ice)) _ (ps .0) in
+    let k : _ = and-split (bits 32 (w .direction)) _ (factor .0) in
+    record {
+      outcome = _;
+      next = _;
+      link = wind-set lifetime (lend (w .pressures)) (k .0) (k .1) (factor .1) (ps .1) (r .steps);
+      proper = r .proper;
+    }
 link-exists s p (report lent) h =
     record {
       outcome = _;
       next = s;
-      link = reported lifetime (lend lent) (lend (lentAfter (stateOf s) (report lent))) (report-answers s lent .1);
+      link = reported lifetime (lend lent) (lend (lentAfter (stateOf s) (report lent))) h (report-answers s lent .1);
       proper = p;
     }
 link-exists s p check h = record { outcome = _; next = s; link = checked-for (check-answers (stateOf s) .1); proper = p }
@@ -276,7 +284,7 @@ link-exists s p (write lent) h =
     record {
       outcome = _;
       next = s;
-      link = written-out lifetime (lend lent) (lend (lentAfter (stateOf s) (write lent))) (write-answers s lent .1);
+      link = written-out lifetime (lend lent) (lend (lentAfter (stateOf s) (write lent))) h (write-answers s lent .1);
       proper = p;
     }
 

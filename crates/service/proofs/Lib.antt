@@ -3,6 +3,7 @@ pub mod WaysOut
 pub mod Winds
 pub mod Erects
 pub mod Answered
+pub mod Arguments
 pub mod Links
 pub mod Demand3
 pub mod Filled

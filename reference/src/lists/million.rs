@@ -3,9 +3,9 @@
 
 use super::draws::{Draws, Key};
 use super::files::{file, item, Extent};
-use super::{counts_text, line, Counts, ANSWERS};
+use super::{counts_text, line, Counts};
 use crate::file_cases::digest;
-use crate::refusal::Refusal;
+use crate::refusal::{Refusal, ANSWERS};
 use crate::report::ROW;
 use crate::service::Service;
 use crate::tower::{Item, Tower};

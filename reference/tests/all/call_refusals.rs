@@ -2,7 +2,7 @@
 //! nothing.
 
 use crate::common::{erected, flat, item, rows, sample, sample_wind, section, tower, under_wind};
-use reference::refusal::Refusal;
+use reference::refusal::{Refusal, ANSWERS};
 use reference::service::Service;
 use reference::tower::{Item, Legs, Tower};
 use reference::units::{Force, Length};
@@ -47,8 +47,9 @@ fn the_numbers_of_the_refusals() {
         NoWind,
         LentTooShort,
     ];
+    assert_eq!(all, Refusal::ALL);
     let numbers: Vec<u32> = all.iter().map(|refusal| refusal.number()).collect();
-    assert_eq!(numbers, (1..=22).collect::<Vec<u32>>());
+    assert_eq!(numbers, (1..ANSWERS as u32).collect::<Vec<u32>>());
 }
 
 #[test]

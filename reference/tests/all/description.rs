@@ -5,7 +5,7 @@ use reference::description::{file_of, text_of, Fault, Wrong};
 use reference::draw::{self, small_tower, Random};
 use reference::file::{read, write};
 use reference::file_cases::{crowded, largest, middle, roomy, smallest, triangle};
-use reference::refusal::Refusal;
+use reference::refusal::{Refusal, ANSWERS};
 use reference::tower::{Item, Legs, Tower};
 use reference::units::{Force, Length};
 
@@ -146,7 +146,7 @@ fn damaged_item(random: &mut Random, sections: usize) -> Item {
 #[test]
 fn a_tower_with_a_fault_gets_the_refusal_of_its_file() {
     let mut random = Random(0x5eed_0502);
-    let mut counts = [0; 23];
+    let mut counts = [0; ANSWERS];
     for _ in 0..2_000 {
         let mut tower = small_tower(&mut random, 3);
         damage(&mut random, &mut tower);

@@ -3,9 +3,9 @@
 use reference::areas::{gross_face_area, solid_area};
 use reference::file_cases::digest;
 use reference::lists::{
-    all_lists, list, list_digest, Step, ANSWERS, CALLS, LENT_BYTE, LENT_NUMBER, LISTS, NONE_OVER,
+    all_lists, list, list_digest, Step, CALLS, LENT_BYTE, LENT_NUMBER, LISTS, NONE_OVER,
 };
-use reference::refusal::Refusal;
+use reference::refusal::{Refusal, ANSWERS};
 use reference::report::ROW;
 use reference::service::Service;
 use reference::tower::{ice_thickness, Tower};

@@ -1,7 +1,8 @@
 //! The list of hangings and take-downs on one tower, and what the program prints.
 
 use crate::lists::lists;
-use reference::lists::{million, text, Million, ANSWERS, HUNG, LISTS};
+use reference::lists::{million, text, Million, HUNG, LISTS};
+use reference::refusal::ANSWERS;
 use reference::tower::Member;
 use std::sync::OnceLock;
 

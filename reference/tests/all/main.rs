@@ -17,6 +17,7 @@ mod file_refusals;
 mod file_rules;
 mod files;
 mod formula;
+mod header;
 mod host;
 mod least_force;
 mod lists;

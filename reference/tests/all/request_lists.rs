@@ -1,6 +1,7 @@
 //! The lists of requests for `towerd`: what they cover.
 
 use crate::requests::second_answer;
+use reference::refusal::ANSWERS;
 use reference::request_lists::{self, files, Line, List};
 use reference::requests::{Fault, Program, Request};
 use reference::service::Service;
@@ -143,7 +144,7 @@ fn every_refusal_is_reached_at_least_thirty_times() {
     }
     assert_eq!(
         counts.keys().copied().collect::<Vec<u32>>(),
-        (0..=22).collect::<Vec<u32>>()
+        (0..ANSWERS as u32).collect::<Vec<u32>>()
     );
     assert!(counts.values().all(|count| *count >= 30), "{counts:?}");
     assert!(counts[&0] >= 4_000, "{counts:?}");

@@ -1,6 +1,7 @@
 //! Document 01's samples in the transcript of the program `samples`; the numbers
 //! are document 01's.
 
+use reference::refusal::ANSWERS;
 use reference::transcript::{files, samples, transcript};
 use std::collections::BTreeSet;
 use std::sync::OnceLock;
@@ -257,7 +258,7 @@ fn allowances_may_be_reached() {
 /// Each refusal under its number in document 01, and no other there.
 #[test]
 fn every_refusal_under_its_sentence() {
-    for number in 1..=22 {
+    for number in 1..ANSWERS {
         let found = answers(&format!("{number}. "));
         let refused: Vec<&String> = found.iter().filter(|answer| *answer != "ok").collect();
         assert!(!refused.is_empty(), "{number}");

@@ -1,6 +1,6 @@
 use native.Mathlib.Omega.{arith}
 use Rattle.requests.specs.Asked.{itemAt}
-use Rattle.handler.proofs.Typed.{ItemBounds, item-bounds}
+use Rattle.model.proofs.Typed.{ItemBounds, item-bounds}
 use borrow.Author.Needs.{needs}
 use Rattle.handler.proofs.arguments.item_at.Statement.{statement}
 use Rattle.handler.proofs.arguments.item_at.Tie as tie

@@ -1,0 +1,121 @@
+-- Examples of the definitions that stand in the statements of the customer's demands and in no function's promise: arguments of their types, what is lent
+-- before a call, accepted, the tower newly erected, the sum of the arms. No code fails where one of these is wrong, so an example does.
+use Prim.Native.Nat.{ℕ}
+use mathlib.Core.Path.{_≡_}
+use mathlib.Core.Bool.{Bool, true, false, not}
+use mathlib.Core.List.{List, [], _∷_, _++_, map}
+use mathlib.Core.Option.{some}
+use lib.ListN.{replicate}
+use Rattle.model.specs.declared.Item.{Item}
+use Rattle.model.specs.declared.Legs.the-variants.{Four}
+use Rattle.model.specs.declared.Answer.the-variants as answer
+use Rattle.model.specs.declared.CheckAnswer.the-variants as check-answer
+use Rattle.model.specs.declared.WriteAnswer.the-variants as write-answer
+use Rattle.model.specs.declared.Refusal.the-variants as refusal
+use Rattle.model.specs.Lists.{allOf}
+use Rattle.model.specs.Tower.{Section, Tower, Wind}
+use Rattle.model.specs.Machine.{no-tower, standing}
+use Rattle.model.specs.Report.{armsTo}
+use Rattle.model.specs.Calls.{Call, erect, hang, takeDown, wind, report, check, write, typed, lentBefore, run, newlyErected, firstRefusal, lentLast}
+use Rattle.model.specs.Outcomes.{Reply, answered, checked, written, numberAlone, Outcome, isAccepted, lastLent}
+use Rattle.model.specs.Examples.{plain, itemOf, plainTower, erectFour, steady, secondWind}
+
+-- an item and a wind with these fields
+abbrev pub item : ℕ → ℕ → ℕ → ℕ → ℕ → ℕ → ℕ → Item
+item number section width length bare iced position =
+    record {
+      number = number;
+      section = section;
+      width = record { 0 = width };
+      length = record { 0 = length };
+      bare = bare;
+      iced = iced;
+      position = position;
+    }
+
+abbrev pub windOf : ℕ → ℕ → ℕ → List ℕ → Call
+windOf k ice factor ps = wind (record { direction = k; ice = ice; factor = factor; pressures = ps })
+
+-- every call, each argument with the greatest value of its parameter's type, and with 0
+unfoldable pub widest : List Call
+widest =
+    erect (255 ∷ 0 ∷ [])
+    ∷ hang (item 65_535 255 4_294_967_295 4_294_967_295 65_535 65_535 65_535)
+    ∷ takeDown 65_535
+    ∷ windOf 4_294_967_295 4_294_967_295 4_294_967_295 (65_535 ∷ 0 ∷ [])
+    ∷ report (18_446_744_073_709_551_615 ∷ 0 ∷ [])
+    ∷ check
+    ∷ write (255 ∷ 0 ∷ [])
+    ∷ []
+
+-- one argument above that
+unfoldable pub wider : List Call
+wider =
+    erect (0 ∷ 256 ∷ [])
+    ∷ hang (item 65_536 0 0 0 0 0 0)
+    ∷ hang (item 0 256 0 0 0 0 0)
+    ∷ hang (item 0 0 4_294_967_296 0 0 0 0)
+    ∷ hang (item 0 0 0 4_294_967_296 0 0 0)
+    ∷ hang (item 0 0 0 0 65_536 0 0)
+    ∷ hang (item 0 0 0 0 0 65_536 0)
+    ∷ hang (item 0 0 0 0 0 0 65_536)
+    ∷ takeDown 65_536
+    ∷ windOf 4_294_967_296 0 0 []
+    ∷ windOf 0 4_294_967_296 0 []
+    ∷ windOf 0 0 4_294_967_296 []
+    ∷ windOf 0 0 0 (0 ∷ 65_536 ∷ [])
+    ∷ report (0 ∷ 18_446_744_073_709_551_616 ∷ [])
+    ∷ write (0 ∷ 256 ∷ [])
+    ∷ []
+
+abbrev pub told : List ℕ → Reply → Outcome
+told lent reply = record { reply = reply; lent = lent }
+
+-- every answer that accepts, and every kind of answer that refuses
+unfoldable pub accepting : List Outcome
+accepting =
+    told [] (answered answer.Accepted)
+    ∷ told [] (checked (check-answer.Over 1))
+    ∷ told [] (checked check-answer.NoneOver)
+    ∷ told [] (written (write-answer.Written 19))
+    ∷ []
+
+unfoldable pub refusing : List Outcome
+refusing =
+    told [] (answered (answer.Refused refusal.NoTower))
+    ∷ told [] (checked (check-answer.Refused refusal.NoWind))
+    ∷ told [] (written (write-answer.Refused refusal.OutputShort))
+    ∷ []
+
+-- two sections of these heights
+abbrev pub sectionOf : ℕ → Section
+sectionOf height = record { width = record { 0 = 2000 }; height = record { 0 = height }; allowance = record { 0 = 0 }; groups = [] }
+
+unfoldable pub twoHigh : ℕ → ℕ → Tower
+twoHigh upper lower = record { legs = Four; sections = sectionOf upper ∷ sectionOf lower ∷ []; items = [] }
+
+pub record StatementExamples : Type 0 where
+  -- arguments of their types: every value of each type, and no other
+  pub typed-widest : allOf typed widest ≡ true
+  pub untyped-wider : allOf (λ c. not (typed c)) wider ≡ true
+  -- what is lent before
+  pub lent : map lentBefore widest
+      ≡ (255 ∷ 0 ∷ []) ∷ [] ∷ [] ∷ (65_535 ∷ 0 ∷ []) ∷ (18_446_744_073_709_551_615 ∷ 0 ∷ []) ∷ [] ∷ (255 ∷ 0 ∷ []) ∷ []
+  -- the answers of check and write are more than a number
+  pub number-alone : map numberAlone widest ≡ true ∷ true ∷ true ∷ true ∷ true ∷ false ∷ false ∷ []
+  -- accepted
+  pub is-accepted : allOf isAccepted accepting ≡ true
+  pub is-refused : allOf (λ o. not (isAccepted o)) refusing ≡ true
+  -- the slice of the last call, of several
+  pub last-lent : lastLent (told (1 ∷ []) (answered answer.Accepted) ∷ told (2 ∷ []) (answered answer.Accepted) ∷ []) ≡ 2 ∷ []
+  pub lent-last : lentLast no-tower (erectFour ++ (write (replicate 21 9) ∷ [])) ≡ plain 4 ++ (9 ∷ 9 ∷ [])
+  -- the first refusal of a list, whatever comes behind it
+  pub first-refusal : firstRefusal no-tower (erectFour ++ (steady ∷ report [] ∷ takeDown 7 ∷ [])) ≡ 22
+  -- the newly erected tower: the file without its items, its items in this order, its wind, a report; and the state that they lead to
+  pub newly : newlyErected (plainTower (itemOf 7 0 300 ∷ itemOf 8 0 300 ∷ [])) (itemOf 8 0 300 ∷ itemOf 7 0 300 ∷ []) secondWind (5 ∷ 6 ∷ [])
+      ≡ erect (plain 4) ∷ hang (itemOf 8 0 300) ∷ hang (itemOf 7 0 300) ∷ wind secondWind ∷ report (5 ∷ 6 ∷ []) ∷ []
+  pub newly-stands : run no-tower (newlyErected (plainTower (itemOf 7 0 300 ∷ itemOf 8 0 300 ∷ [])) (itemOf 8 0 300 ∷ itemOf 7 0 300 ∷ []) secondWind (replicate 6 0))
+      ≡ standing (plainTower (itemOf 8 0 300 ∷ itemOf 7 0 300 ∷ [])) (some secondWind)
+  -- the sum of the arms about either foot of two sections, 4 000 and 6 000 mm high: 2 000, and 8 000 + 3 000
+  pub arms-upper : armsTo (twoHigh 4000 6000) 1 ≡ record { 0 = 2000 }
+  pub arms-lower : armsTo (twoHigh 4000 6000) 2 ≡ record { 0 = 11_000 }
