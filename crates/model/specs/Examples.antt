@@ -38,18 +38,22 @@ itemWith number section width =
 unfoldable pub plain : ℕ → List ℕ
 plain legs = fileWith legs 2000 6000 1 (group 0 100 24_000) 0 []
 
--- an item with this number, section and width
-unfoldable pub itemOf : ℕ → ℕ → ℕ → Item
-itemOf number section width =
+-- an item with these fields
+abbrev pub item : ℕ → ℕ → ℕ → ℕ → ℕ → ℕ → ℕ → Item
+item number section width length bare iced position =
     record {
       number = number;
       section = section;
       width = record { 0 = width };
-      length = record { 0 = 2000 };
-      bare = 1200;
-      iced = 1500;
-      position = 800;
+      length = record { 0 = length };
+      bare = bare;
+      iced = iced;
+      position = position;
     }
+
+-- and with this number, section and width
+unfoldable pub itemOf : ℕ → ℕ → ℕ → Item
+itemOf number section width = item number section width 2000 1200 1500 800
 
 unfoldable pub windWith : ℕ → ℕ → ℕ → List ℕ → Call
 windWith k ice factor ps = wind (record { direction = k; ice = ice; factor = factor; pressures = ps })

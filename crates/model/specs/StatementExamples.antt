@@ -6,35 +6,18 @@ use mathlib.Core.Bool.{Bool, true, false, not}
 use mathlib.Core.List.{List, [], _∷_, _++_, map}
 use mathlib.Core.Option.{some}
 use lib.ListN.{replicate}
-use Rattle.model.specs.declared.Item.{Item}
 use Rattle.model.specs.declared.Legs.the-variants.{Four}
 use Rattle.model.specs.declared.Answer.the-variants as answer
 use Rattle.model.specs.declared.CheckAnswer.the-variants as check-answer
 use Rattle.model.specs.declared.WriteAnswer.the-variants as write-answer
 use Rattle.model.specs.declared.Refusal.the-variants as refusal
 use Rattle.model.specs.Lists.{allOf}
-use Rattle.model.specs.Tower.{Section, Tower, Wind}
+use Rattle.model.specs.Tower.{Section, Tower}
 use Rattle.model.specs.Machine.{no-tower, standing}
 use Rattle.model.specs.Report.{armsTo}
 use Rattle.model.specs.Calls.{Call, erect, hang, takeDown, wind, report, check, write, typed, lentBefore, run, newlyErected, firstRefusal, lentLast}
 use Rattle.model.specs.Outcomes.{Reply, answered, checked, written, numberAlone, Outcome, isAccepted, lastLent}
-use Rattle.model.specs.Examples.{plain, itemOf, plainTower, erectFour, steady, secondWind}
-
--- an item and a wind with these fields
-abbrev pub item : ℕ → ℕ → ℕ → ℕ → ℕ → ℕ → ℕ → Item
-item number section width length bare iced position =
-    record {
-      number = number;
-      section = section;
-      width = record { 0 = width };
-      length = record { 0 = length };
-      bare = bare;
-      iced = iced;
-      position = position;
-    }
-
-abbrev pub windOf : ℕ → ℕ → ℕ → List ℕ → Call
-windOf k ice factor ps = wind (record { direction = k; ice = ice; factor = factor; pressures = ps })
+use Rattle.model.specs.Examples.{plain, item, itemOf, windWith, plainTower, erectFour, steady, secondWind}
 
 -- every call, each argument with the greatest value of its parameter's type, and with 0
 unfoldable pub widest : List Call
@@ -42,7 +25,7 @@ widest =
     erect (255 ∷ 0 ∷ [])
     ∷ hang (item 65_535 255 4_294_967_295 4_294_967_295 65_535 65_535 65_535)
     ∷ takeDown 65_535
-    ∷ windOf 4_294_967_295 4_294_967_295 4_294_967_295 (65_535 ∷ 0 ∷ [])
+    ∷ windWith 4_294_967_295 4_294_967_295 4_294_967_295 (65_535 ∷ 0 ∷ [])
     ∷ report (18_446_744_073_709_551_615 ∷ 0 ∷ [])
     ∷ check
     ∷ write (255 ∷ 0 ∷ [])
@@ -60,10 +43,10 @@ wider =
     ∷ hang (item 0 0 0 0 0 65_536 0)
     ∷ hang (item 0 0 0 0 0 0 65_536)
     ∷ takeDown 65_536
-    ∷ windOf 4_294_967_296 0 0 []
-    ∷ windOf 0 4_294_967_296 0 []
-    ∷ windOf 0 0 4_294_967_296 []
-    ∷ windOf 0 0 0 (0 ∷ 65_536 ∷ [])
+    ∷ windWith 4_294_967_296 0 0 []
+    ∷ windWith 0 4_294_967_296 0 []
+    ∷ windWith 0 0 4_294_967_296 []
+    ∷ windWith 0 0 0 (0 ∷ 65_536 ∷ [])
     ∷ report (0 ∷ 18_446_744_073_709_551_616 ∷ [])
     ∷ write (0 ∷ 256 ∷ [])
     ∷ []
@@ -87,12 +70,12 @@ refusing =
     ∷ told [] (written (write-answer.Refused refusal.OutputShort))
     ∷ []
 
--- two sections of these heights
-abbrev pub sectionOf : ℕ → Section
-sectionOf height = record { width = record { 0 = 2000 }; height = record { 0 = height }; allowance = record { 0 = 0 }; groups = [] }
+-- a section of this height, and a tower of two
+abbrev pub sectionHigh : ℕ → Section
+sectionHigh height = record { width = record { 0 = 2000 }; height = record { 0 = height }; allowance = record { 0 = 0 }; groups = [] }
 
 unfoldable pub twoHigh : ℕ → ℕ → Tower
-twoHigh upper lower = record { legs = Four; sections = sectionOf upper ∷ sectionOf lower ∷ []; items = [] }
+twoHigh upper lower = record { legs = Four; sections = sectionHigh upper ∷ sectionHigh lower ∷ []; items = [] }
 
 pub record StatementExamples : Type 0 where
   -- arguments of their types: every value of each type, and no other
