@@ -91,16 +91,16 @@ impl Service {
         Ok(())
     }
 
-    /// A section over its allowance, or none. Document 01 leaves open which of
-    /// several; here it is the topmost. Refusals 1, 21.
+    /// The topmost section over its allowance, which is the lowest number of
+    /// those over, or none. Refusals 1, 21.
     pub fn check(&self) -> Result<Option<u8>, Refusal> {
         let (tower, rows) = self.rows()?;
-        let mut pairs = tower.sections.iter().zip(&rows);
-        let first = pairs.position(|(section, row)| is_over(section, row));
-        Ok(first.map(|section| section as u8))
+        let sections = (0u8..).zip(tower.sections.iter().zip(&rows));
+        let over = sections.filter(|(_, (section, row))| is_over(section, row));
+        Ok(over.map(|(number, _)| number).min())
     }
 
-    /// Whether check may answer this section: it exists, its allowance is
+    /// Whether this section is over its allowance: it exists, its allowance is
     /// stated and its reported shear is above it. Refusals 1, 21.
     pub fn is_over(&self, section: u8) -> Result<bool, Refusal> {
         let (tower, rows) = self.rows()?;

@@ -38,6 +38,8 @@ pub struct TowerCase {
     pub rows: Vec<u64>,
     /// For each section 1 if its shear is above its allowance, else 0.
     pub over: Vec<u8>,
+    /// What check answers; the number of sections if none is over.
+    pub topmost: usize,
 }
 
 /// A file, and the number of its refusal.
@@ -240,22 +242,26 @@ fn tower_case(random: &mut Random, place: u32) -> TowerCase {
 }
 
 /// With the rows that the service reports, and allowances at the shears and
-/// beside them.
+/// beside them, half of them below.
 fn reported(mut tower: Tower, wind: Wind) -> TowerCase {
     let mut rows = vec![0; ROW * tower.sections.len()];
     assert_eq!(under(&tower, &wind).report(&mut rows), Ok(()));
     for (place, section) in tower.sections.iter_mut().enumerate() {
         let shear = rows[ROW * place + 4];
-        section.allowance = match (place as u64 + rows[3]) % 4 {
+        section.allowance = match shear % 6 {
             0 => None,
-            beside => Some(Force((shear + beside).saturating_sub(2))),
+            1 => Some(Force(shear)),
+            2 => Some(Force(shear + 1)),
+            _ => Some(Force(shear - 1)),
         };
     }
     let service = under(&tower, &wind);
     let over = (0..tower.sections.len() as u8)
         .map(|section| u8::from(service.is_over(section) == Ok(true)))
         .collect();
+    let checked = service.check().expect("a tower under a wind");
     TowerCase {
+        topmost: checked.map_or(tower.sections.len(), usize::from),
         tower,
         wind,
         rows,

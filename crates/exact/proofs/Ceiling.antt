@@ -138,3 +138,15 @@ module _ {e : Exact} (s : Sound e) (z : AtMost (whole 0) e) where
 pub ceiling-same : {x y : Exact} → Sound x → Sound y → Same x y → ceiling x ≡ ceiling y
 ceiling-same {x} {y} sx sy e =
     least-unique (least-same sx sy e (ceiling-least x (sx .rational))) (ceiling-least y (sy .rational))
+
+whole-≼ : {m n : ℕ} → m ≤ n → whole m ≼ whole n
+unfolding whole _//_
+whole-≼ h = record { cross = omega arith }
+
+-- the ceiling by two tests: n + 1 is enough, and n is not
+pub ceiling-tested : {e : Exact} → Sound e → (n : ℕ) → atLeastᵇ e (whole (n + 1)) ≡ true → atLeastᵇ e (whole n) ≡ false → ceiling e ≡ n + 1
+ceiling-tested {e} s n h g = least-unique (ceiling-least e (s .rational)) (record { enough = test-at-least e (whole (n + 1)) h; least = above })
+  where
+    above : (m : ℕ) → AtLeast e (whole m) → n + 1 ≤ m
+    above m k =
+        ⊎-elim (λ (q : m ≤ n). absurd (clash (at-least-test (at-least-up s (whole-proper m) (whole-proper n) (whole-≼ q) k)) g)) (λ (q : n < m). omega arith) (le-or-lt m n)

@@ -24,6 +24,7 @@ use Rattle.model.specs.Examples.{
   largestTower,
   MachineExamples,
 }
+use Rattle.model.proofs.TopmostExamples.{of-three, stated, exceeded}
 
 pub machine-examples : MachineExamples
 unfolding joined sumBy listTo groupArea gross solidOf flowOf field ranged many readGroup readGroups readSection readSections readItemFields readItem readItems readFile bytes groupBytes sectionBytes itemBytes fileOf filled erectRefusal erectStep exceeds pressuresOf hostRefusal fileWith group itemWith plain itemOf windWith gives holds files calls plainTower triangle largestTower
@@ -57,5 +58,8 @@ machine-examples =
       exceeded = refl;
       reached = refl;
       not-stated = refl;
+      topmost-of-three = of-three;
+      topmost-stated = stated;
+      topmost-exceeded = exceeded;
       iced-round = refl;
     }

@@ -11,6 +11,7 @@ pub mod Reorder
 pub mod Rows
 pub mod RowsFit
 pub mod Samples
+pub mod TopmostExamples
 pub mod Examples
 pub mod StatementExamples
 pub mod FileRefusals
@@ -21,6 +22,7 @@ pub mod Distinct
 pub mod Accepted
 pub mod RoundTrips
 pub mod Says
+pub mod OneAnswer
 pub mod Refused
 pub mod HostCall
 pub mod Typed

@@ -1,11 +1,12 @@
--- What the answers of check and write say, taken apart.
-use Prim.Native.Nat.{ℕ, _+_, _≤_, _<_}
+-- What the answers of check and write say, taken apart, and the refusals' numbers.
+use Prim.Native.Nat.{ℕ, _+_, _-_, _≤_, _<_}
 use mathlib.Core.Path.{_≡_, refl, ap}
 use mathlib.Core.Bool.{not}
+use mathlib.Core.List.{List, [], _∷_}
 use mathlib.Core.Option.{some}
 use native.Mathlib.Omega.{arith}
 use lib.Dec.{eqb, lit<, lit≤}
-use lib.ListN.{length}
+use lib.ListN.{length, getD}
 use borrow.Author.Tests.{eqb-false, ltb-true, lt-ltb, ne-eqb, not-true}
 use Rattle.model.specs.declared.Answer.{Answer}
 use Rattle.model.specs.declared.Answer.the-variants as answer
@@ -41,8 +42,12 @@ over-only {t} {w} {i} h =
     record { section = h .section; stated = eqb-false _ _ (not-true _ (k .0)); above = ltb-true _ _ (k .1) }
 
 module _ {t : Tower} {w : Wind} where
+  -- the section that check names is over, and none above it is
   pub check-over : {i : ℕ} → CheckSays (standing t (some w)) (check.Over i) → Over t w i
-  check-over (over h) = over-only h
+  check-over (over h) = over-only (h .is-over)
+
+  pub check-topmost : {i : ℕ} → CheckSays (standing t (some w)) (check.Over i) → (j : ℕ) → j < i → Over t w j → ⊥
+  check-topmost (over h) j k g = h .none-above j k (over-if g)
 
   pub check-none : CheckSays (standing t (some w)) check.NoneOver → (i : ℕ) → Over t w i → ⊥
   check-none (none-over h) i g = h i (over-if g)
@@ -53,36 +58,67 @@ check-refused (turned-down e) = e
 pub write-length : {m : State} {room n : ℕ} → WriteSays m room (write.Written n) → (writeRefusal m room ≡ 0) × (n ≡ length (fileIn m))
 write-length (written e h) = (e, h)
 
--- a refusal's number is not 0, which says that a call is accepted, and is at most the highest
-refusal-between : (r : Refusal) → (0 < refusalNumber r) × (refusalNumber r ≤ highestRefusal)
-refusal-between refusal.NoTower = (lit< tt, lit≤ tt)
-refusal-between refusal.FileEnds = (lit< tt, lit≤ tt)
-refusal-between refusal.Legs = (lit< tt, lit≤ tt)
-refusal-between refusal.SectionCount = (lit< tt, lit≤ tt)
-refusal-between refusal.SectionSize = (lit< tt, lit≤ tt)
-refusal-between refusal.GroupCount = (lit< tt, lit≤ tt)
-refusal-between refusal.GroupField = (lit< tt, lit≤ tt)
-refusal-between refusal.BareSolidity = (lit< tt, lit≤ tt)
-refusal-between refusal.ItemCount = (lit< tt, lit≤ tt)
-refusal-between refusal.ItemNumber = (lit< tt, lit≤ tt)
-refusal-between refusal.ItemSection = (lit< tt, lit≤ tt)
-refusal-between refusal.ItemField = (lit< tt, lit≤ tt)
-refusal-between refusal.BytesFollow = (lit< tt, lit≤ tt)
-refusal-between refusal.NoSuchItem = (lit< tt, lit≤ tt)
-refusal-between refusal.Direction = (lit< tt, lit≤ tt)
-refusal-between refusal.IceClass = (lit< tt, lit≤ tt)
-refusal-between refusal.StructureFactor = (lit< tt, lit≤ tt)
-refusal-between refusal.PressureCount = (lit< tt, lit≤ tt)
-refusal-between refusal.Pressure = (lit< tt, lit≤ tt)
-refusal-between refusal.IcedSolidity = (lit< tt, lit≤ tt)
-refusal-between refusal.NoWind = (lit< tt, lit≤ tt)
-refusal-between refusal.OutputShort = (lit< tt, lit≤ tt)
+-- the refusals in the order of their numbers
+abbrev pub refusals : List Refusal
+refusals =
+    refusal.NoTower
+    ∷ refusal.FileEnds
+    ∷ refusal.Legs
+    ∷ refusal.SectionCount
+    ∷ refusal.SectionSize
+    ∷ refusal.GroupCount
+    ∷ refusal.GroupField
+    ∷ refusal.BareSolidity
+    ∷ refusal.ItemCount
+    ∷ refusal.ItemNumber
+    ∷ refusal.ItemSection
+    ∷ refusal.ItemField
+    ∷ refusal.BytesFollow
+    ∷ refusal.NoSuchItem
+    ∷ refusal.Direction
+    ∷ refusal.IceClass
+    ∷ refusal.StructureFactor
+    ∷ refusal.PressureCount
+    ∷ refusal.Pressure
+    ∷ refusal.IcedSolidity
+    ∷ refusal.NoWind
+    ∷ refusal.OutputShort
+    ∷ []
+
+-- a refusal's number is not 0, which says that a call is accepted, and is at most the highest; the refusal stands at that place of the list
+refusal-numbered : (r : Refusal)
+    → (0 < refusalNumber r) × (refusalNumber r ≤ highestRefusal) × (getD refusals (refusalNumber r - 1) refusal.NoTower ≡ r)
+refusal-numbered refusal.NoTower = (lit< tt, lit≤ tt, refl)
+refusal-numbered refusal.FileEnds = (lit< tt, lit≤ tt, refl)
+refusal-numbered refusal.Legs = (lit< tt, lit≤ tt, refl)
+refusal-numbered refusal.SectionCount = (lit< tt, lit≤ tt, refl)
+refusal-numbered refusal.SectionSize = (lit< tt, lit≤ tt, refl)
+refusal-numbered refusal.GroupCount = (lit< tt, lit≤ tt, refl)
+refusal-numbered refusal.GroupField = (lit< tt, lit≤ tt, refl)
+refusal-numbered refusal.BareSolidity = (lit< tt, lit≤ tt, refl)
+refusal-numbered refusal.ItemCount = (lit< tt, lit≤ tt, refl)
+refusal-numbered refusal.ItemNumber = (lit< tt, lit≤ tt, refl)
+refusal-numbered refusal.ItemSection = (lit< tt, lit≤ tt, refl)
+refusal-numbered refusal.ItemField = (lit< tt, lit≤ tt, refl)
+refusal-numbered refusal.BytesFollow = (lit< tt, lit≤ tt, refl)
+refusal-numbered refusal.NoSuchItem = (lit< tt, lit≤ tt, refl)
+refusal-numbered refusal.Direction = (lit< tt, lit≤ tt, refl)
+refusal-numbered refusal.IceClass = (lit< tt, lit≤ tt, refl)
+refusal-numbered refusal.StructureFactor = (lit< tt, lit≤ tt, refl)
+refusal-numbered refusal.PressureCount = (lit< tt, lit≤ tt, refl)
+refusal-numbered refusal.Pressure = (lit< tt, lit≤ tt, refl)
+refusal-numbered refusal.IcedSolidity = (lit< tt, lit≤ tt, refl)
+refusal-numbered refusal.NoWind = (lit< tt, lit≤ tt, refl)
+refusal-numbered refusal.OutputShort = (lit< tt, lit≤ tt, refl)
 
 pub refusal-positive : (r : Refusal) → 0 < refusalNumber r
-refusal-positive r = refusal-between r .0
+refusal-positive r = refusal-numbered r .0
 
 pub refusal-highest : (r : Refusal) → refusalNumber r ≤ highestRefusal
-refusal-highest r = refusal-between r .1
+refusal-highest r = refusal-numbered r .1
+
+pub refusal-place : (r : Refusal) → getD refusals (refusalNumber r - 1) refusal.NoTower ≡ r
+refusal-place r = refusal-numbered r .2
 
 -- and one reaches it
 pub highest-reached : refusalNumber refusal.OutputShort ≡ highestRefusal

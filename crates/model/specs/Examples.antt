@@ -2,7 +2,7 @@
 use Prim.Native.Nat.{ℕ, _-_, _/_}
 use mathlib.Core.Path.{_≡_}
 use mathlib.Core.Bool.{Bool, true, false}
-use mathlib.Core.List.{List, [], _∷_, _++_}
+use mathlib.Core.List.{List, [], _∷_, _++_, map}
 use mathlib.Core.Option.{none, some}
 use lib.Dec.{eqb}
 use lib.ListN.{length, replicate}
@@ -11,13 +11,13 @@ use Rattle.model.specs.declared.Member.the-variants.{Flat, Round}
 use Rattle.model.specs.declared.Flow.the-variants.{Subcritical}
 use Rattle.model.specs.declared.Item.{Item}
 use Rattle.model.specs.Lists.{listTo, allOf}
-use Rattle.model.specs.Tower.{Tower, Wind}
+use Rattle.model.specs.Tower.{Section, Tower, Wind}
 use Rattle.model.specs.Areas.{thickness, flowOf}
 use Rattle.model.specs.Reading.{got}
 use Rattle.model.specs.File.{readFile}
 use Rattle.model.specs.Bytes.{bytes, fileOf}
 use Rattle.model.specs.Machine.{no-tower, standing}
-use Rattle.model.specs.Report.{exceeds}
+use Rattle.model.specs.Report.{sectionAt, exceeds, TopmostOver}
 use Rattle.model.specs.Host.{pressuresOf, hostRefusal}
 use Rattle.model.specs.Valid.{ValidWind}
 use Rattle.model.specs.Calls.{Call, erect, hang, takeDown, wind, report, check, write, refusalOf, lentAfter, run}
@@ -207,6 +207,17 @@ plainTower items =
       items = items;
     }
 
+abbrev pub allowing : Section → ℕ → Section
+allowing x newtons = record { width = x .width; height = x .height; allowance = record { 0 = newtons }; groups = x .groups }
+
+-- three sections like it, with these allowances, and a wind of 1 000 N/m² on each: the shears are 7 033, 14 066 and 21 099 N
+unfoldable pub threeAllowing : ℕ → ℕ → ℕ → Tower
+threeAllowing upper middle lower =
+    record { legs = Four; sections = map (allowing (sectionAt (plainTower []) 0)) (upper ∷ middle ∷ lower ∷ []); items = [] }
+
+unfoldable pub threePressed : Wind
+threePressed = record { direction = 0; ice = 0; factor = 1000; pressures = 1000 ∷ 1000 ∷ 1000 ∷ [] }
+
 pub record MachineExamples : Type 0 where
   -- the bytes themselves, high byte first
   pub file : plain 4 ≡ 4 ∷ 1 ∷ 7 ∷ 208 ∷ 23 ∷ 112 ∷ 0 ∷ 0 ∷ 0 ∷ 0 ∷ 1 ∷ 0 ∷ 0 ∷ 100 ∷ 0 ∷ 0 ∷ 93 ∷ 192 ∷ 0 ∷ []
@@ -239,5 +250,9 @@ pub record MachineExamples : Type 0 where
   pub exceeded : exceeds (record { 0 = 501 }) (record { 0 = 500 }) ≡ true
   pub reached : exceeds (record { 0 = 500 }) (record { 0 = 500 }) ≡ false
   pub not-stated : exceeds (record { 0 = 501 }) (record { 0 = 0 }) ≡ false
+  -- of several sections over their allowances the topmost; one that states none is not over, nor one whose shear is equal to it
+  pub topmost-of-three : TopmostOver (threeAllowing 7032 14_065 21_098) threePressed 0
+  pub topmost-stated : TopmostOver (threeAllowing 0 14_065 21_098) threePressed 1
+  pub topmost-exceeded : TopmostOver (threeAllowing 7033 14_066 21_098) threePressed 2
   -- under ice every round is subcritical
   pub iced-round : flowOf (thickness 1) 5000 (Round (record { 0 = 1000 })) ≡ Subcritical

@@ -21,7 +21,7 @@ use Rattle.model.specs.Areas.{thickness, gross, solidOf}
 use Rattle.model.specs.Reading.{Parsed, got, refused}
 use Rattle.model.specs.File.{readFile, numbered, fieldsInRange}
 use Rattle.model.specs.Bytes.{fileOf}
-use Rattle.model.specs.Report.{rowsOf, IsOver}
+use Rattle.model.specs.Report.{rowsOf, IsOver, TopmostOver}
 
 -- no tower; or a tower, and a wind or none. A fresh service has no tower.
 pub data State : Type 0 where
@@ -133,14 +133,14 @@ rowsIn (standing t (some w)) = rowsOf t w
 abbrev pub reportOut : State → List ℕ → List ℕ
 reportOut m lent = filled (reportRefusal m (length lent)) (rowsIn m) lent
 
--- check: a section over its allowance, or that none is; which of several is free
+-- check: the topmost section over its allowance, or that none is
 abbrev pub checkRefusal : State → ℕ
 checkRefusal no-tower = 1
 checkRefusal (standing t none) = 21
 checkRefusal (standing t (some w)) = 0
 
 pub data CheckSays : State → CheckAnswer → Type 0 where
-  over : {t : Tower} {w : Wind} {i : ℕ} → IsOver t w i → CheckSays (standing t (some w)) (check.Over i)
+  over : {t : Tower} {w : Wind} {i : ℕ} → TopmostOver t w i → CheckSays (standing t (some w)) (check.Over i)
   none-over : {t : Tower} {w : Wind} → ((i : ℕ) → IsOver t w i → ⊥) → CheckSays (standing t (some w)) check.NoneOver
   turned-down : {m : State} {r : _} → refusalNumber r ≡ checkRefusal m → CheckSays m (check.Refused r)
 

@@ -102,3 +102,8 @@ exceeds shear allowance = not (eqb (allowance .0) 0) && ltb (allowance .0) (shea
 pub record IsOver (t : Tower) (w : Wind) (i : ℕ) : Type 0 where
   pub section : i < length (t .sections)
   pub over : exceeds (shearAt t w (i + 1)) (sectionAt t i .allowance) ≡ true
+
+-- section i is the topmost one over: it is over its allowance, and none above it is
+pub record TopmostOver (t : Tower) (w : Wind) (i : ℕ) : Type 0 where
+  pub is-over : IsOver t w i
+  pub none-above : (j : ℕ) → j < i → IsOver t w j → ⊥

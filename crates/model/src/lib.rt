@@ -114,7 +114,7 @@ pub enum Answer {
     Refused(Refusal),
 }
 
-// The answer of check: a section over its allowance, or that none is.
+// The answer of check: the topmost section over its allowance, or that none is.
 pub enum CheckAnswer {
     Over(usize),
     NoneOver,

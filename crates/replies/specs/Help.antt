@@ -16,7 +16,7 @@ helpText =
     ++ ascii "                    factor in thousandths, then each section's pressure in N/m2; answers ok\n"
     ++ ascii "  report [ROOM]     answers ok SECTIONS, then a line a section from the top: flat, subcritical and\n"
     ++ ascii "                    supercritical area in mm2, force in N, shear in N, moment in N mm at its foot\n"
-    ++ ascii "  check             answers ok none, or ok SECTION, whose shear is above its allowance\n"
+    ++ ascii "  check             answers ok SECTION, the topmost whose shear is above its allowance, or ok none\n"
     ++ ascii "  write [ROOM]      answers ok HEX, the tower's file\n"
     ++ ascii "  help              answers this text\n"
     ++ ascii "ROOM: how many numbers (192 at most) or bytes (3000 at most) may be filled; without it, all.\n"

@@ -18,7 +18,7 @@ pub(crate) fn put_help(out: &mut [u8]) -> usize
                     factor in thousandths, then each section's pressure in N/m2; answers ok
   report [ROOM]     answers ok SECTIONS, then a line a section from the top: flat, subcritical and
                     supercritical area in mm2, force in N, shear in N, moment in N mm at its foot
-  check             answers ok none, or ok SECTION, whose shear is above its allowance
+  check             answers ok SECTION, the topmost whose shear is above its allowance, or ok none
   write [ROOM]      answers ok HEX, the tower's file
   help              answers this text
 ROOM: how many numbers (192 at most) or bytes (3000 at most) may be filled; without it, all.

@@ -15,8 +15,8 @@ pub enum Fault {
     LongLine,
 }
 
-// The answer to a request: a call is accepted or turned down; six numbers for each of so many sections; a section over its allowance, or that
-// none is; a file of so many bytes; what the requests are; or what is wrong with the line.
+// The answer to a request: a call is accepted or turned down; six numbers for each of so many sections; the topmost section over its
+// allowance, or that none is; a file of so many bytes; what the requests are; or what is wrong with the line.
 pub enum Reply {
     Done,
     Refused(Refusal),

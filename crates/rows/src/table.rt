@@ -1,4 +1,4 @@
-// The report's rows, and the sections whose shear is above their allowance.
+// The report's rows, and the topmost section whose shear is above its allowance.
 ghost use mathlib.Core.Path.{_≡_};
 ghost use mathlib.Core.Bool.{true};
 ghost use mathlib.Core.List.{_++_};
@@ -69,7 +69,7 @@ fn exceeds(shear: Force, allowance: Force) -> bool
     allowance.0 < shear.0
 }
 
-// A section whose reported shear is above its allowance, or that none is.
+// The topmost section whose reported shear is above its allowance, or that none is.
 pub fn section_over(t: Tower, w: Wind) -> CheckAnswer
     requires { ⌜ (towerFits (areas.thickness (w .ice)) t ≡ true) × (windFits (t .count) w ≡ true) ⌝ }
     ensures { λ r. ⌜ CheckSays (standing (towerOf t) (some (windOf (t .count) w))) r ⌝ }

@@ -28,7 +28,7 @@ use Rattle.model.specs.Tower.{Tower, Wind}
 use Rattle.model.specs.Areas.{thickness}
 use Rattle.model.specs.Reading.{Parsed, got, refused}
 use Rattle.model.specs.File.{readFile, numbered}
-use Rattle.model.specs.Report.{sectionAt, shearAt, exceeds, IsOver}
+use Rattle.model.specs.Report.{sectionAt, shearAt, exceeds, IsOver, TopmostOver}
 use Rattle.model.specs.Machine as machine
 use Rattle.model.specs.Machine.{no-tower, standing, fileRefusal, erectRefusal, without, fileIn, CheckSays}
 use Rattle.model.specs.Calls.{Call, erect, hang, takeDown, wind, report, check, write, bits, typed, refusalOf, lentAfter, newlyErected}
@@ -210,9 +210,9 @@ write-answers s lent = by-case (refusal-for (stateOf s) (write lent))
     by-case (free h) = (write-answer.Written (length (fileIn (stateOf s))), record { answer = machine.written h refl; bytes = refl })
     by-case (told n) = (write-answer.Refused (n .why), record { answer = machine.turned-down (sym (n .number)); bytes = refl })
 
--- check: of the first n sections one is over its allowance, or none is
+-- check: of the first n sections one is the topmost over its allowance, or none is over
 data Found (t : Tower) (w : Wind) (n : ℕ) : Type 0 where
-  one-over : {i : ℕ} → IsOver t w i → Found t w n
+  one-over : {i : ℕ} → TopmostOver t w i → Found t w n
   none-so-far : ((i : ℕ) → i < n → IsOver t w i → ⊥) → Found t w n
 
 module _ (t : Tower) (w : Wind) where
@@ -221,7 +221,7 @@ module _ (t : Tower) (w : Wind) where
   found-more n h (none-so-far f) = by-case (exceeds (shearAt t w (n + 1)) (sectionAt t n .allowance)) refl
     where
       by-case : (b : Bool) → exceeds (shearAt t w (n + 1)) (sectionAt t n .allowance) ≡ b → Found t w (n + 1)
-      by-case true e = one-over (record { section = h; over = e })
+      by-case true e = one-over (record { is-over = record { section = h; over = e }; none-above = f })
       by-case false e = none-so-far (below-more (λ (i : ℕ). IsOver t w i → ⊥) n f (λ o. clash (o .over) e))
 
   found-in : (n : ℕ) → n ≤ length (t .sections) → Found t w n

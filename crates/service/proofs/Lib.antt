@@ -5,6 +5,7 @@ pub mod Erects
 pub mod Answered
 pub mod Arguments
 pub mod Links
+pub mod SameOutcomes
 pub mod Demand3
 pub mod Filled
 pub mod Demand1

@@ -31,7 +31,7 @@ pub fn report(s: State, out: &mut [u64]) -> Answer
     Answer::Accepted
 }
 
-// A section whose reported shear is above its allowance, or that none is.
+// The topmost section whose reported shear is above its allowance, or that none is.
 pub fn check(s: State) -> CheckAnswer
     ensures { λ r. ⌜ CheckSays (stateOf s) r ⌝ }
 {

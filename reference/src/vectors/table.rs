@@ -46,9 +46,10 @@ fn numbers<T: Display>(all: &[T]) -> String {
 fn tower_case(case: &TowerCase) -> String {
     let (rows, over) = (numbers(&case.rows), numbers(&case.over));
     format!(
-        "reported {} {} {rows} {over}",
+        "reported {} {} {rows} {over} {}",
         tower(&case.tower),
-        wind(&case.wind)
+        wind(&case.wind),
+        case.topmost
     )
 }
 

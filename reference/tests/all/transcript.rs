@@ -255,6 +255,22 @@ fn allowances_may_be_reached() {
     }
 }
 
+#[test]
+fn check_names_the_topmost_of_three() {
+    let cases = [
+        ("All three sections over: ", "0"),
+        ("The two lower sections over: ", "1"),
+        ("The top section without an allowance, the others", "1"),
+        ("The top section over and the lowest, ", "0"),
+        ("The top section without an allowance, the next", "2"),
+        ("No section over: ", "none"),
+    ];
+    for (title, named) in cases {
+        let wanted = ["ok", "ok", &format!("ok {named}")];
+        assert_eq!(answers(title), wanted, "{title}");
+    }
+}
+
 /// Each refusal under its number in document 01, and no other there.
 #[test]
 fn every_refusal_under_its_sentence() {

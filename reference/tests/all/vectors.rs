@@ -92,6 +92,19 @@ fn allowances_are_at_the_shears_and_on_either_side() {
 }
 
 #[test]
+fn check_names_the_top_section_or_a_lower_one_of_one_or_several_or_none() {
+    let mut seen = BTreeSet::new();
+    for case in &Vectors::all().towers {
+        let first = case.over.iter().position(|&over| over == 1);
+        assert_eq!(case.topmost, first.unwrap_or(case.over.len()));
+        let over = case.over.iter().filter(|&&over| over == 1).count();
+        seen.insert((over.min(2), over > 0 && case.topmost > 0));
+    }
+    let kinds = [(0, false), (1, false), (1, true), (2, false), (2, true)];
+    assert_eq!(seen, BTreeSet::from(kinds));
+}
+
+#[test]
 fn all_directions_and_ice_classes_and_flows_are_there() {
     let vectors = Vectors::all();
     let directions = |legs| -> BTreeSet<u32> {

@@ -78,7 +78,7 @@ returns c =
     let l = c .before .before .before .before .before .before .before in
     let s = l .before .before in
     let h : l .loop .i < length (towerOf (s .args .t1) .sections) = omega (arith, count s) in
-    over (record { section = h; over = sym (told (c .before)) ∙ c .if1 .taken })
+    over (record { is-over = record { section = h; over = sym (told (c .before)) ∙ c .if1 .taken }; none-above = l .loop .inv .1 .none })
 
 add-i : tie.Need-add-i Inv-loop μ-loop
 add-i c = search needs
