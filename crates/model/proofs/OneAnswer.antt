@@ -1,5 +1,5 @@
 -- Each answer is a function of the machine's state: two answers that the machine has for a call in one state are equal.
-use Prim.Native.Nat.{ℕ, _-_, _<_}
+use Prim.Native.Nat.{ℕ, _-_}
 use mathlib.Core.Path.{_≡_, refl, ap, sym, _∙_}
 use mathlib.Core.Bool.{Bool, true, false, true≢false}
 use mathlib.Core.Option.{some}
@@ -19,10 +19,10 @@ use Rattle.model.specs.Answers.{refusalNumber, answerNumber}
 use Rattle.model.specs.Tower.{Tower, Wind}
 use Rattle.model.specs.Report.{TopmostOver}
 use Rattle.model.specs.Machine as machine
-use Rattle.model.specs.Machine.{State, standing, CheckSays, over, none-over, WriteSays, written}
+use Rattle.model.specs.Machine.{State, standing, CheckSays, over, none-over, WriteSays}
 use Rattle.model.specs.Calls.{Call}
 use Rattle.model.specs.Outcomes.{Reply, answered, checked, written, Says, by-number, by-check, by-write}
-use Rattle.model.proofs.Says.{Over, over-only, over-if, refusals, refusal-positive, refusal-place}
+use Rattle.model.proofs.Says.{Over, over-only, refusals, refusal-positive, refusal-place}
 
 -- no two refusals have one number, and so no two answers
 pub refusal-same : {r s : Refusal} → refusalNumber r ≡ refusalNumber s → r ≡ s

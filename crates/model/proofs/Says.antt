@@ -1,12 +1,13 @@
 -- What the answers of check and write say, taken apart, and the refusals' numbers.
 use Prim.Native.Nat.{ℕ, _+_, _-_, _≤_, _<_}
 use mathlib.Core.Path.{_≡_, refl, ap}
-use mathlib.Core.Bool.{not}
+use mathlib.Core.Bool.{false, not}
 use mathlib.Core.List.{List, [], _∷_}
 use mathlib.Core.Option.{some}
 use native.Mathlib.Omega.{arith}
 use lib.Dec.{eqb, lit<, lit≤}
 use lib.ListN.{length, getD}
+use borrow.Author.Count.{below-more}
 use borrow.Author.Tests.{eqb-false, ltb-true, lt-ltb, ne-eqb, not-true}
 use Rattle.model.specs.declared.Answer.{Answer}
 use Rattle.model.specs.declared.Answer.the-variants as answer
@@ -19,7 +20,7 @@ use Rattle.model.specs.Answers.{refusalNumber, highestRefusal, answerNum
 use Rattle.model.specs.Tower.{Tower, Wind}
 use Rattle.model.specs.Report.{sectionAt, shearAt, exceeds, IsOver}
 use Rattle.model.specs.Machine.{State, standing, checkRefusal, CheckSays, over, none-over, turned-down, writeRefusal, fileIn, WriteSays, written}
-use Rattle.exact.proofs.Bools.{and-split}
+use Rattle.exact.proofs.Bools.{clash, and-split}
 
 -- a section is over exactly if it is a section, states an allowance, and its reported shear is above that
 pub record Over (t : Tower) (w : Wind) (i : ℕ) : Type 0 where
@@ -40,6 +41,11 @@ unfolding exceeds
 over-only {t} {w} {i} h =
     let k : _ = and-split (not (eqb (sectionAt t i .allowance .0) 0)) _ (h .over) in
     record { section = h .section; stated = eqb-false _ _ (not-true _ (k .0)); above = ltb-true _ _ (k .1) }
+
+-- where none of the first n sections is over, and the next does not exceed its allowance, none of the first n + 1 is
+pub none-more : {t : Tower} {w : Wind} (n : ℕ) → ((i : ℕ) → i < n → IsOver t w i → ⊥) → exceeds (shearAt t w (n + 1)) (sectionAt t n .allowance) ≡ false
+    → (i : ℕ) → i < n + 1 → IsOver t w i → ⊥
+none-more n h e = below-more _ n h (λ o. clash (o .over) e)
 
 module _ {t : Tower} {w : Wind} where
   -- the section that check names is over, and none above it is

@@ -1,22 +1,20 @@
 -- The examples of the topmost section over: forces and shears by computing, and the rest from them.
 use Prim.Native.Nat.{ℕ, _+_, _<_}
 use mathlib.Core.Path.{_≡_, refl, ap}
-use mathlib.Core.Bool.{Bool, false}
+use mathlib.Core.Bool.{Bool}
 use native.Mathlib.Omega.{arith}
 use lib.Dec.{lit<}
-use borrow.Author.Count.{below-more}
 use Rattle.exact.specs.Fraction.{_//_, whole, _⊕_, _⊖_, _·_, _≼ᵇ_}
 use Rattle.exact.specs.Number.{_⊞_, _⊙_, Sound, square, atLeastᵇ}
-use Rattle.exact.proofs.Bools.{clash}
 use Rattle.exact.proofs.Ceiling.{ceiling-tested}
 use Rattle.units.specs.declared.Force.{Force}
 use Rattle.model.specs.Lists.{sumBy}
-use Rattle.model.specs.Tower.{Tower, Wind}
 use Rattle.model.specs.Areas.{groupArea, itemArea, gross, flowOf, areaIn, areasOf, solid}
 use Rattle.model.specs.Force.{m², solidity, C1, C2, c-f, c-c, c-p, K1, K2, quarters, halves, s, Kθ, coefficient, itemPart, itemSum, resistance, exact, exactForce}
-use Rattle.model.specs.Report.{sectionAt, exactAt, forceAt, shear, exceeds, IsOver, TopmostOver}
+use Rattle.model.specs.Report.{sectionAt, exactAt, forceAt, shear, exceeds, TopmostOver}
 use Rattle.model.specs.Examples.{plainTower, threeAllowing, threePressed}
 use Rattle.model.proofs.Moments.{shear-none, shear-more}
+use Rattle.model.proofs.Says.{none-more}
 
 -- the force on each section, whatever the allowances: 7 032.96 N, and so 7 033
 module _ (a b c : ℕ) where
@@ -49,11 +47,6 @@ module _ (a b c : ℕ) where
     ap (λ (n : ℕ). exceeds (record { 0 = n }) (record { 0 = c })) (shears .2),
   )
 
--- a section that does not exceed its allowance, below others that are not over
-under : {t : Tower} {w : Wind} (i : ℕ) → exceeds (shear (forceAt t w) (i + 1)) (sectionAt t i .allowance) ≡ false → ((j : ℕ) → j < i → IsOver t w j → ⊥)
-    → (j : ℕ) → j < i + 1 → IsOver t w j → ⊥
-under i e above = below-more _ i above (λ o. clash (o .over) e)
-
 pub of-three : TopmostOver (threeAllowing 7032 14_065 21_098) threePressed 0
 unfolding exceeds exceeding threeAllowing
 of-three = record { is-over = record { section = lit< tt; over = are 7032 14_065 21_098 .0 }; none-above = λ j k. absurd (omega arith) }
@@ -64,7 +57,7 @@ stated =
     let e : _ = are 0 14_065 21_098 in
     record {
       is-over = record { section = lit< tt; over = e .1 };
-      none-above = λ j k. under 0 (e .0) (λ n h. absurd (omega arith)) j (omega (arith, k));
+      none-above = λ j k. none-more 0 (λ n h. absurd (omega arith)) (e .0) j (omega (arith, k));
     }
 
 pub exceeded : TopmostOver (threeAllowing 7033 14_066 21_098) threePressed 2
@@ -73,5 +66,5 @@ exceeded =
     let e : _ = are 7033 14_066 21_098 in
     record {
       is-over = record { section = lit< tt; over = e .2 };
-      none-above = λ j k. under 1 (e .1) (under 0 (e .0) (λ n h. absurd (omega arith))) j (omega (arith, k));
+      none-above = λ j k. none-more 1 (none-more 0 (λ n h. absurd (omega arith)) (e .0)) (e .1) j (omega (arith, k));
     }

@@ -39,7 +39,7 @@ numberAlone (report lent) = true
 numberAlone check = false
 numberAlone (write lent) = false
 
--- the answer is one that document 01 has for the call in the machine's state
+-- the answer is document 01's for the call in the machine's state; there is no other (proofs/OneAnswer)
 pub data Says : State → Call → Reply → Type 0 where
   by-number : {m : State} {c : Call} {a : Answer} → numberAlone c ≡ true → answerNumber a ≡ refusalOf m c → Says m c (answered a)
   by-check : {m : State} {a : CheckAnswer} → CheckSays m a → Says m check (checked a)

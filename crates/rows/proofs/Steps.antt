@@ -6,7 +6,6 @@ use mathlib.Core.List.{List, [], _∷_, _++_, append-assoc}
 use native.Mathlib.Omega.{arith}
 use lib.ListN.{length, take, drop, set, length-append, length-drop, length-take}
 use lib.Seq.{take-at, drop-at, drop-drop}
-use borrow.Author.Count.{below-more}
 use borrow.Rule.Slice.PartMut.{putMid, post-is}
 use Rattle.units.specs.declared.Force.{Force}
 use Rattle.units.specs.declared.Length.{Length}
@@ -14,7 +13,7 @@ use Rattle.model.specs.Tower.{Tower, Wind}
 use Rattle.model.specs.Report.{sectionAt, heightAt, areasAt, forceAt, row, rowAt, rowsTo, shearAt, momentAt, exceeds, IsOver}
 use Rattle.model.proofs.Moments.{shear-none, shear-more, moment-none, moment-more}
 use Rattle.model.proofs.Rows.{rows-more, length-rows}
-use Rattle.exact.proofs.Bools.{clash}
+use Rattle.model.proofs.Says.{none-more}
 use Rattle.force.specs.declared.Load.{Load}
 use Rattle.rows.specs.declared.Foot.{Foot}
 use Rattle.rows.specs.Loaded.{NextFoot, rowOf}
@@ -117,4 +116,4 @@ module _ {t : Tower} {w : Wind} {i : ℕ} where
   pub checked-next : {above f : Force} → Checked t w i above → f ≡ forceAt t w i → f .0 ≤ 2 ^ 27
       → exceeds (shearAt t w (i + 1)) (sectionAt t i .allowance) ≡ false → Checked t w (i + 1) (record { 0 = above .0 + f .0 })
   checked-next s ef b g =
-      record { shear = shear-next t w i (s .shear) ef; small = omega (arith, s .small); none = below-more _ i (s .none) (λ o. clash (o .over) g) }
+      record { shear = shear-next t w i (s .shear) ef; small = omega (arith, s .small); none = none-more i (s .none) g }

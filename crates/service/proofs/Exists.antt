@@ -10,7 +10,6 @@ use native.Mathlib.Omega.{arith}
 use lib.Dec.{eqb}
 use lib.ListN.{length, take, drop, set, replicate, length-append, length-drop, length-set}
 use lib.Seq.{take-append-seam}
-use borrow.Author.Count.{below-more}
 use borrow.Author.Tests.{eqb-true, not-false}
 use contract.Lifetimes.{Lfts}
 use denote.Ref.{RefT}
@@ -33,6 +32,7 @@ use Rattle.model.specs.Machine as machine
 use Rattle.model.specs.Machine.{no-tower, standing, fileRefusal, erectRefusal, without, fileIn, CheckSays}
 use Rattle.model.specs.Calls.{Call, erect, hang, takeDown, wind, report, check, write, bits, typed, refusalOf, lentAfter, newlyErected}
 use Rattle.model.specs.Valid.{ValidTower, ValidWind}
+use Rattle.model.proofs.Says.{none-more}
 use Rattle.model.proofs.FileRefusals.{Numbered, file-numbered}
 use Rattle.model.proofs.Accepted.{accepted-valid, accepted-all}
 use Rattle.model.proofs.Forces.{refuse-none, wind-facts}
@@ -42,7 +42,7 @@ use Rattle.model.proofs.Sections.{within-range}
 use Rattle.model.proofs.NewlyErected.{newly-typed}
 use Rattle.areas.specs.Fits.{fitsUnder}
 use Rattle.tower_file.specs.Stored.{ReadsFile}
-use Rattle.exact.proofs.Bools.{clash, and-split}
+use Rattle.exact.proofs.Bools.{and-split}
 use Rattle.service.specs.declared.State as stored
 use Rattle.service.specs.declared.Step.{Step}
 use Rattle.service.specs.Held.{whole, stateOf}
@@ -222,7 +222,7 @@ module _ (t : Tower) (w : Wind) where
     where
       by-case : (b : Bool) → exceeds (shearAt t w (n + 1)) (sectionAt t n .allowance) ≡ b → Found t w (n + 1)
       by-case true e = one-over (record { is-over = record { section = h; over = e }; none-above = f })
-      by-case false e = none-so-far (below-more (λ (i : ℕ). IsOver t w i → ⊥) n f (λ o. clash (o .over) e))
+      by-case false e = none-so-far (none-more n f e)
 
   found-in : (n : ℕ) → n ≤ length (t .sections) → Found t w n
   found-in zero h = none-so-far (λ i k. absurd (omega arith))

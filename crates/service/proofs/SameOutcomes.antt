@@ -1,4 +1,5 @@
 -- Each outcome is a function of the machine's state: where two states stand for the same one, the same calls have the same outcomes.
+use Prim.Native.Nat.{ℕ}
 use mathlib.Core.Path.{_≡_, refl, ap, sym, subst, _∙_}
 use mathlib.Core.List.{List, [], _∷_}
 use Rattle.model.specs.Machine.{State}
@@ -11,7 +12,7 @@ use Rattle.service.proofs.Links.{IsFresh, Link, Chain, none, more, link
 
 outcome-same : {o p : Outcome} → o .reply ≡ p .reply → o .lent ≡ p .lent → o ≡ p
 outcome-same {o} {p} d e =
-    ap (λ (r : Reply). record { reply = r; lent = o .lent }) d ∙ ap (λ (l : List _). record { reply = p .reply; lent = l }) e
+    ap (λ (r : Reply). record { reply = r; lent = o .lent }) d ∙ ap (λ (l : List ℕ). record { reply = p .reply; lent = l }) e
 
 pub link-same : {s s′ z z′ : stored.State} {c : Call} {o p : Outcome} → stateOf s ≡ stateOf z → Link s c o s′ → Link z c p z′ → o ≡ p
 link-same {c = c} {o = o} {p = p} e l k =

@@ -24,7 +24,7 @@ const CASES: [(u64, u64, &str); 6] = [
 const TOPMOST: [([u64; 3], &str); 6] = [
     (
         [7_032, 14_065, 21_098],
-        "All three sections over: 0, the uppermost",
+        "All three sections over: 0, the topmost",
     ),
     (
         [7_033, 14_065, 21_098],
