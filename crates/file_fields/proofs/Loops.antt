@@ -12,7 +12,7 @@ use Rattle.model.proofs.Readings.{many-step}
 pub take-next : {A : Type 0} (l : List A) (i : ℕ) (a : A) → i < length l → take (i + 1) (set l i a) ≡ take i l ++ (a ∷ [])
 take-next l i a h = rw (add-one, take-suc-set l i a h)
 
-map-append : {A B : Type 0} (f : A → B) (l : List A) (a : A) → map f (l ++ (a ∷ [])) ≡ map f l ++ (f a ∷ [])
+pub map-append : {A B : Type 0} (f : A → B) (l : List A) (a : A) → map f (l ++ (a ∷ [])) ≡ map f l ++ (f a ∷ [])
 map-append f [] a = refl
 map-append f (x ∷ l) a = ap (λ m. f x ∷ m) (map-append f l a)
 

@@ -6,9 +6,9 @@ use lib.ListN.{length, drop}
 use Rattle.model.specs.declared.Refusal.{Refusal}
 use Rattle.model.specs.declared.Refusal.the-variants.{FileEnds}
 use Rattle.model.specs.Answers.{refusalNumber}
-use Rattle.model.specs.Reading.{Parsed, got, refused}
+use Rattle.model.specs.Reading.{Parsed, got, refused, field}
 use Rattle.file_fields.specs.declared.Field.{Field}
-use Rattle.file_fields.specs.declared.Field.the-variants as field
+use Rattle.file_fields.specs.declared.Field.the-variants as answer
 
 -- a value with the next place, or a refusal
 pub data Outcome (A : Type 0) : Type 0 where
@@ -29,10 +29,15 @@ whyBarred (found a next) = FileEnds
 whyBarred (barred e) = e
 
 abbrev pub fieldOutcome : Field → Outcome ℕ
-fieldOutcome (field.Value v next) = found v next
-fieldOutcome (field.Refused e) = barred e
+fieldOutcome (answer.Value v next) = found v next
+fieldOutcome (answer.Refused e) = barred e
 
 -- a field's number has no more than its bytes
 abbrev pub SmallField : ℕ → Field → Type 0
-SmallField w (field.Value v next) = v < 256 ^ w
-SmallField w (field.Refused e) = Unit {0}
+SmallField w (answer.Value v next) = v < 256 ^ w
+SmallField w (answer.Refused e) = Unit {0}
+
+-- the field of w bytes at a place, read. Laws `fetched-number` and `fetched-end` in proofs/Fetched: the field's number and the next place, or 2
+-- exactly if fewer bytes remain
+abbrev pub ReadsField : ℕ → List ℕ → ℕ → Field → Type 0
+ReadsField w s at r = Reads ℕ s (field w (drop at s)) (fieldOutcome r) × SmallField w r

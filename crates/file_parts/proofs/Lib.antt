@@ -1,2 +1,3 @@
+pub mod Marks
 pub mod Order
 pub mod StoredSections

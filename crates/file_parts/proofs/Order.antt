@@ -1,7 +1,7 @@
 -- The file's parts in their order: a section is its head, then its groups; the file ends in the items with their count.
 use Prim.Native.Nat.{ℕ, _%_, _≤_, _<_}
 use mathlib.Core.Path.{_≡_, refl, ap, sym, _∙_}
-use mathlib.Core.Bool.{Bool, true, false}
+use mathlib.Core.Bool.{Bool, true, false, not}
 use mathlib.Core.List.{List, []}
 use lib.Dec.{leb, eqb}
 use lib.ListN.{length}
@@ -9,14 +9,15 @@ use borrow.Author.Tests.{le-leb, lt-leb}
 use Rattle.units.specs.declared.Area.{Area}
 use Rattle.model.specs.declared.Range.{Range}
 use Rattle.model.specs.declared.Group.{Group}
+use Rattle.model.specs.declared.Item.{Item}
 use Rattle.model.specs.Ranges.{legCount, sectionCount, sectionWidth, sectionHeight, groupCount, itemCount}
 use Rattle.model.specs.Tower.{Section}
 use Rattle.model.specs.Areas.{bareSolid, gross}
 use Rattle.model.specs.Reading.{Parsed, got, refused, then, require, field, ranged}
-use Rattle.model.specs.File.{legsOf, readGroups, readSection, readSections, readItems, readFile}
+use Rattle.model.specs.File.{legsOf, readGroups, readSection, readSections, numbered, readItem, readItems, readFile}
 use Rattle.model.proofs.Readings.{Gives, given, when-got, gives, then-gives, require-gives, anything}
 use Rattle.file_parts.specs.declared.Head.{Head}
-use Rattle.file_parts.specs.Parts.{readHead, readItemPart}
+use Rattle.file_parts.specs.Parts.{readHead, readItemRest, readItemPart}
 use Rattle.file_fields.proofs.Answered.{ranged-high}
 
 -- a reading within a reading, and one behind a rule
@@ -58,6 +59,11 @@ head-first s =
     ∙ sym (then-require (eqb (height % 2) 0) 5 _ sectionFrom))
     ∙ sym (then-then (ranged 2 sectionHeight 5 s₁) _ sectionFrom))
     ∙ sym (then-then (ranged 2 sectionWidth 5 s) _ sectionFrom)
+
+pub number-first : (sections : ℕ) (earlier : List Item) (s : List ℕ)
+    → readItem sections earlier s ≡ then (field 2 s) λ number s₁. require (not (numbered number earlier)) 10 (readItemRest sections number s₁)
+unfolding readItem readItemRest
+number-first sections earlier s = refl
 
 pub items-last : (s : List ℕ)
     → readFile s

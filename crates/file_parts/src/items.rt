@@ -1,14 +1,14 @@
 // The ancillary items, in hanging order.
-ghost use Prim.Native.Nat.{_≤_};
+ghost use Prim.Native.Nat.{_%_, _≤_, _<_};
 ghost use mathlib.Core.Path.{_≡_};
 ghost use mathlib.Core.List.{List};
 ghost use lib.ListN.{length, take};
 ghost use Rattle.model.specs.Lists.{joined};
-ghost use Rattle.model.specs.File.{numbered, readItemFields, readItem, readItems};
+ghost use Rattle.model.specs.File.{numbered, readItemFields, readItems};
 ghost use Rattle.model.specs.Bytes.{itemFieldBytes, itemBytes};
 ghost use Rattle.file_fields.specs.Outcomes.{Reads, whyBarred};
 ghost use Rattle.file_parts.specs.PartOutcomes.{itemOutcome, partOutcome};
-ghost use Rattle.file_parts.specs.Parts.{readItemPart};
+ghost use Rattle.file_parts.specs.Parts.{readItemRest, readItemPart};
 ghost use Rattle.file_fields.specs.Written.{Puts};
 use crate::ItemRead;
 use crate::ItemsRead;
@@ -29,6 +29,9 @@ use units::Length;
 
 // The bytes of an item.
 pub const ITEM_BYTES: usize = 13;
+
+// How many marks item numbers can leave.
+const MARKS: usize = 1024;
 
 pub const NO_ITEM: Item = Item {
     number: 0,
@@ -102,53 +105,64 @@ pub fn is_numbered(number: u16, items: [Item; 64], held: usize) -> bool
     false
 }
 
-// An item behind the first ones, on a tower of so many sections.
-fn read_item(file: &[u8], sections: usize, items: [Item; 64], held: usize) -> ItemRead
-    requires { ⌜ held ≤ 64 ⌝ }
-    ensures { λ r. ⌜ Reads Item (now (file .entry)) (readItem sections (take held items) (now (file .entry))) (itemOutcome r) ⌝ }
+// An item behind its number, on a tower of so many sections.
+fn read_item_rest(file: &[u8], sections: usize, number: u16) -> ItemRead
+    ensures { λ r. ⌜ Reads Item (now (file .entry)) (readItemRest sections number (now (file .entry))) (itemOutcome r) ⌝ }
 {
-    let f = read_field(file, 0, 2);
-    let Field::Value(number, at) = f else {
+    let f = read_field(file, 0, 1);
+    let Field::Value(section, at) = f else {
         return ItemRead::Refused(field_refusal(f));
-    };
-    let number = number as u16;
-    if is_numbered(number, items, held) {
-        return ItemRead::Refused(Refusal::ItemNumber);
-    }
-    let f2 = read_field(file, at, 1);
-    let Field::Value(section, at2) = f2 else {
-        return ItemRead::Refused(field_refusal(f2));
     };
     if sections <= section as usize {
         return ItemRead::Refused(Refusal::ItemSection);
     }
-    let read = read_item_fields(&file[at2..], number, section as u8);
+    let read = read_item_fields(&file[at..], number, section as u8);
     let ItemRead::Item(item, used) = read else {
         return read;
     };
-    let next = at2 + used;
+    let next = at + used;
     ItemRead::Item(item, next)
 }
 
-// So many items.
+// Where a number leaves its mark.
+fn mark_of(number: u16) -> usize
+    ensures { λ r. ⌜ (r ≡ number % 1024) × (r < 1024) ⌝ }
+{
+    number as usize % MARKS
+}
+
+// So many items. A number is compared with those before it only where one of them left its mark.
 fn read_items(file: &[u8], sections: usize, count: usize) -> ItemsRead
     requires { ⌜ count ≤ 64 ⌝ }
     ensures { λ r. ⌜ Reads (List Item) (now (file .entry)) (readItems sections count (now (file .entry))) (partOutcome (take count (r .items)) (r .part)) ⌝ }
 {
+    let held = count;
     let mut items = [NO_ITEM; 64];
+    let mut marks = [false; MARKS];
     let mut at: usize = 0;
     for i in 0usize..count {
-        let read = read_item(&file[at..], sections, items, i);
+        let f = read_field(file, at, 2);
+        let Field::Value(number, at2) = f else {
+            let part = Part::Refused(field_refusal(f));
+            return ItemsRead { part, held, items };
+        };
+        let number = number as u16;
+        let mark = mark_of(number);
+        if marks[mark] && is_numbered(number, items, i) {
+            let part = Part::Refused(Refusal::ItemNumber);
+            return ItemsRead { part, held, items };
+        }
+        let read = read_item_rest(&file[at2..], sections, number);
         let ItemRead::Item(item, used) = read else {
             let part = Part::Refused(item_refusal(read));
-            let held = count;
             return ItemsRead { part, held, items };
         };
         items[i] = item;
-        at += used;
+        let own = mark_of(item.number);
+        marks[own] = true;
+        at = at2 + used;
     }
     let part = Part::Next(at);
-    let held = count;
     ItemsRead { part, held, items }
 }
 

@@ -1,7 +1,7 @@
 //! The calls on a tower under a wind, in the library and in Rust.
 
 use crate::library::{self, Windy};
-use crate::timing::{pair, Pair, Versions};
+use crate::timing::{pair, Pair, PairTable, Versions};
 use crate::towers::{self, dish, Rounds, SECTIONS};
 use reference::file::write;
 use reference::plain;
@@ -183,6 +183,9 @@ impl Versions for TimedTower {
     }
 }
 
+/// Of the calls that are timed in two versions.
+pub const TABLE: PairTable = PairTable::of("ns per call");
+
 /// A call that is timed in two versions.
 #[derive(Clone, Copy, Debug, PartialEq, Eq)]
 pub enum Call {
@@ -222,11 +225,7 @@ impl Call {
         let calls = self.in_round() as f64;
         let library = |rounds| self.library(timed, rounds);
         let rust = |rounds| self.rust(timed, rounds);
-        let times = pair(repetitions, self.rounds(), library, rust);
-        Pair {
-            library: times.library / calls,
-            rust: times.rust / calls,
-        }
+        pair(repetitions, self.rounds(), library, rust).map(|round| round / calls)
     }
 
     /// So many rounds of the library, and how many calls are accepted.

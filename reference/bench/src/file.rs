@@ -1,6 +1,7 @@
 //! The timed tower files, and the two versions of reading and writing them.
 
-use crate::library;
+use crate::lent::difference_in;
+use crate::library::Files;
 use reference::file::{read, write};
 use reference::file_cases::{largest, middle, smallest, triangle};
 use reference::tower::Tower;
@@ -51,13 +52,13 @@ impl TimedFile {
         self.bytes.len()
     }
 
-    /// So many rounds of the proved library into these lent bytes, and its answer.
-    pub fn library(&self, work: Work, rounds: u64, out: &mut [u8]) -> u64 {
+    /// So many rounds of a proved library into these lent bytes, and its answer.
+    pub fn library(&self, library: &Files, work: Work, rounds: u64, out: &mut [u8]) -> u64 {
         let call = match work {
-            Work::Read => library::read,
-            Work::Write => library::write,
+            Work::Read => Files::read,
+            Work::Write => Files::write,
         };
-        call(black_box(&self.bytes), rounds, out)
+        call(library, black_box(&self.bytes), rounds, out)
     }
 
     /// So many rounds of the Rust version, and the file's length.
@@ -71,35 +72,32 @@ impl TimedFile {
         self.bytes.len() as u64
     }
 
-    /// What the Rust version writes after reading the file, with some more lent
-    /// bytes behind it.
-    fn expected(&self, beyond: &[u8]) -> Vec<u8> {
+    /// Says where a library differs from what the Rust version writes after reading
+    /// the file, if it does.
+    pub fn difference(&self, library: &Files, work: Work) -> Option<String> {
         let tower = read(&self.bytes).expect("a tower's file");
-        [&write(&tower), beyond].concat()
-    }
-
-    /// Says where the library and the Rust version differ, if they do.
-    pub fn difference(&self, work: Work) -> Option<String> {
-        let expected = self.expected(&[165; 5]);
-        let mut out = vec![165; expected.len()];
-        let answer = self.library(work, 1, &mut out);
-        let bytes = self.bytes() as u64;
-        let place = out.iter().zip(&expected).position(|(l, r)| l != r);
-        let differs = if answer != bytes {
-            format!("the library answers {answer}, not {bytes}")
-        } else {
-            format!("the library's bytes differ from place {} on", place?)
-        };
-        Some(format!("{}, {}: {differs}", self.name, work.name()))
+        let differs = difference_in(&write(&tower), 165, |out| {
+            self.library(library, work, 1, out)
+        });
+        let (name, whose) = (self.name, library.name);
+        differs.map(|differs| format!("{name}, {}: {whose} {differs}", work.name()))
     }
 }
 
-/// The largest file first.
-pub fn timed_files() -> Vec<TimedFile> {
-    vec![
-        TimedFile::new("largest", largest()),
-        TimedFile::new("middle", middle()),
-        TimedFile::new("triangle", triangle()),
-        TimedFile::new("smallest", smallest()),
+/// The towers whose files are timed, that of the largest file first.
+pub fn named_towers() -> [(&'static str, Tower); 4] {
+    [
+        ("largest", largest()),
+        ("middle", middle()),
+        ("triangle", triangle()),
+        ("smallest", smallest()),
     ]
+}
+
+/// Their files.
+pub fn timed_files() -> Vec<TimedFile> {
+    let named = named_towers().into_iter();
+    named
+        .map(|(name, tower)| TimedFile::new(name, tower))
+        .collect()
 }

@@ -1,9 +1,10 @@
 //! Tests of the tower files, their bytes and the table, with the library linked.
 
 use crate::file::{timed_files, TimedFile, Work};
-use crate::library;
-use crate::speed::megabytes;
-use crate::timing::{pair_head, pair_line, Pair};
+use crate::lent::difference_in;
+use crate::library::{Files, BESIDE, FILES};
+use crate::speed::{beside, megabytes, TABLE, TABLE_BESIDE};
+use crate::timing::Pair;
 use reference::draw::{small_tower, Random};
 use reference::file::{read, write};
 use reference::file_cases::{largest, triangle};
@@ -32,20 +33,52 @@ fn the_library_and_the_rust_version_give_the_same_bytes() {
     files.extend(accepted.map(|tower| TimedFile::new("drawn", tower)));
     assert!(files.len() >= 100);
     for file in files {
-        for work in Work::ALL {
-            assert_eq!(file.difference(work), None);
+        for library in linked() {
+            for work in Work::ALL {
+                assert_eq!(file.difference(&library, work), None);
+            }
         }
     }
 }
 
-/// Both functions of the library.
-type Call = fn(&[u8], u64, &mut [u8]) -> u64;
-const CALLS: [Call; 2] = [library::read, library::write];
+#[test]
+fn a_difference_is_said() {
+    let wanted = [7, 8, 9];
+    let said = |answer, bytes: &[u8]| {
+        let put = |lent: &mut [u8]| {
+            lent[..bytes.len()].copy_from_slice(bytes);
+            answer
+        };
+        difference_in(&wanted, 1, put)
+    };
+    assert_eq!(said(3, &[7, 8, 9]), None);
+    assert_eq!(said(3, &[7, 8, 9, 1]), None);
+    assert_eq!(said(2, &[7, 8, 9]), Some("answers 2, not 3".into()));
+    let from = |place| Some(format!("differs from place {place} on"));
+    assert_eq!(said(3, &[7, 1, 9]), from(1));
+    assert_eq!(said(3, &[7, 8]), from(2));
+    assert_eq!(said(3, &[7, 8, 9, 1, 2]), from(4));
+}
+
+/// This repository's library, and one beside it if it is linked.
+fn linked() -> impl Iterator<Item = Files> {
+    [Some(FILES), BESIDE].into_iter().flatten()
+}
+
+/// Both functions of each.
+fn calls() -> impl Iterator<Item = impl Fn(&[u8], u64, &mut [u8]) -> u64> {
+    let both = |library: Files| {
+        [Files::read, Files::write].map(|call| {
+            move |file: &[u8], rounds, out: &mut [u8]| call(&library, file, rounds, out)
+        })
+    };
+    linked().flat_map(both)
+}
 
 #[test]
 fn the_library_answers_the_length_after_any_number_of_rounds_but_0() {
     let file = write(&largest());
-    for call in CALLS {
+    for call in calls() {
         for rounds in [1, 2, 3, 100] {
             let mut out = vec![0; file.len()];
             assert_eq!(call(&file, rounds, &mut out), file.len() as u64);
@@ -59,7 +92,7 @@ fn the_library_answers_the_length_after_any_number_of_rounds_but_0() {
 fn the_library_turns_down_a_refused_file_and_lent_bytes_that_are_too_few() {
     let file = write(&triangle());
     let longer = [&file[..], &[0]].concat();
-    for call in CALLS {
+    for call in calls() {
         let mut out = vec![0; file.len() + 5];
         for end in 0..file.len() {
             assert_eq!(call(&file[..end], 1, &mut out), u64::MAX, "{end}");
@@ -74,17 +107,29 @@ fn the_library_turns_down_a_refused_file_and_lent_bytes_that_are_too_few() {
 fn the_table_has_megabytes_and_their_ratio() {
     // 2 915 bytes in 5 830 ns are 500 bytes a microsecond
     assert_eq!(megabytes(2_915, 5_830.0), 500.0);
-    let shown = pair_line(
-        "largest, 2915 bytes, read",
-        Pair {
-            library: 500.0,
-            rust: 400.04,
-        },
-    );
-    assert_eq!(shown.len(), pair_head("MB/s of a tower file").len());
+    let speeds = Pair {
+        first: 500.0,
+        second: 400.04,
+    };
+    let name = "largest, 2915 bytes, read";
+    let shown = TABLE.line(name, speeds);
+    assert_eq!(shown.len(), TABLE.head().len());
+    assert!(TABLE.head().ends_with(" library/Rust"));
+    assert_eq!(shown, TABLE_BESIDE.line(name, speeds));
+    assert!(TABLE_BESIDE.head().ends_with(" this/beside"));
     let words: Vec<&str> = shown.split_whitespace().collect();
     let wanted = [
         "largest,", "2915", "bytes,", "read", "500.0", "400.0", "1.25",
     ];
     assert_eq!(words, wanted);
+}
+
+#[test]
+fn a_library_may_be_timed_beside_another() {
+    for library in linked() {
+        for work in Work::ALL {
+            let speeds = beside(&library, &timed_files()[0], work, 1);
+            assert!(speeds.first > 0.0 && speeds.second > 0.0);
+        }
+    }
 }

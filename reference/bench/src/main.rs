@@ -6,9 +6,13 @@
 #[cfg(test)]
 mod call_tests;
 mod calls;
+#[cfg(test)]
+mod field_tests;
+mod fields;
 mod file;
 #[cfg(test)]
 mod file_tests;
+mod lent;
 #[allow(unsafe_code)]
 mod library;
 mod pipe;
@@ -27,12 +31,14 @@ mod word_tests;
 mod words;
 
 use calls::{mast, timed_calls, timed_towers, with_room, TimedTower};
+use fields::{timed_fields, Fetch, TimedFields};
 use file::{timed_files, TimedFile, Work};
+use library::{Files, BESIDE, FILES};
 use rates::Rate;
 use section::{sections, Timed};
 use std::process::ExitCode;
-use timing::{head, line, mean, pair_head, pair_line, times, worst, Times};
-use words::{parse, Command, Parts, USAGE};
+use timing::{head, line, mean, times, worst, Pair, PairTable, Times};
+use words::{parse, Command, Run, USAGE};
 
 /// Sections of each kind.
 const SECTIONS: usize = 32;
@@ -45,17 +51,13 @@ fn main() -> ExitCode {
         .skip(1)
         .map(|word| word.to_string_lossy().into_owned())
         .collect();
-    match parse(&words) {
+    match parse(&words, BESIDE.is_some()) {
         Ok(Command::Help) => {
             print!("{USAGE}");
             ExitCode::SUCCESS
         }
-        Ok(Command::Run {
-            parts,
-            each,
-            towerd,
-        }) => {
-            if run(parts, each, &towerd) {
+        Ok(Command::Run(asked)) => {
+            if run(&asked) {
                 ExitCode::SUCCESS
             } else {
                 ExitCode::FAILURE
@@ -68,13 +70,15 @@ fn main() -> ExitCode {
     }
 }
 
-/// Times these parts; whether nothing differs.
-fn run(parts: Parts, each: bool, towerd: &str) -> bool {
+/// Times what is asked for; whether nothing differs.
+fn run(asked: &Run) -> bool {
+    let (parts, each) = (asked.parts, asked.each);
+    let beside = BESIDE.filter(|_| asked.beside);
     let differ = [
         parts.force && !run_force(each),
-        parts.file && !run_file(each),
+        parts.file && !run_file(each, beside),
         parts.calls && !run_calls(each),
-        parts.pipe && !run_pipe(towerd, each),
+        parts.pipe && !run_pipe(&asked.towerd, each),
     ];
     !differ.contains(&true)
 }
@@ -118,25 +122,52 @@ fn show(name: &str, sections: &[Timed], each: bool) {
     println!("{}", line(&format!("{name}, worst"), worst(&all)));
 }
 
-/// Compares the bytes of all files and, if they are the same, times the largest
-/// or each.
-fn run_file(each: bool) -> bool {
-    let files = timed_files();
-    let both = |file: &TimedFile| Work::ALL.map(|work| file.difference(work));
-    let differences: Vec<String> = files.iter().flat_map(both).flatten().collect();
+/// Compares the bytes and the fields of all files and, if they are the same, times
+/// those of the largest or of each.
+fn run_file(each: bool, beside: Option<Files>) -> bool {
+    let (files, fields) = (timed_files(), timed_fields());
+    let libraries = [Some(FILES), beside].into_iter().flatten();
+    let mut differences = Vec::new();
+    for library in libraries {
+        let both = |file: &TimedFile| Work::ALL.map(|work| file.difference(&library, work));
+        differences.extend(files.iter().flat_map(both).flatten());
+    }
+    let both = |fields: &TimedFields| Fetch::ALL.map(|fetch| fields.difference(fetch));
+    differences.extend(fields.iter().flat_map(both).flatten());
     let same = none_differs(&differences);
     if same {
-        println!("{}", pair_head("MB/s of a tower file"));
-        let shown = if each { &files[..] } else { &files[..1] };
-        for file in shown {
-            for work in Work::ALL {
-                let name = format!("{}, {} bytes, {}", file.name, file.bytes(), work.name());
-                let speeds = speed::speeds(file, work, REPETITIONS);
-                println!("{}", pair_line(&name, speeds));
-            }
+        let shown = if each { files.len() } else { 1 };
+        show_files(&files[..shown], beside);
+        println!("{}", fields::TABLE.head());
+        for timed in &fields[..shown] {
+            let name = format!("{}, {} fields", timed.name, timed.count());
+            let times = timed.times(REPETITIONS);
+            println!("{}", fields::TABLE.line(&name, times));
         }
     }
     same
+}
+
+/// Times reading and writing these files, and beside another library.
+fn show_files(files: &[TimedFile], beside: Option<Files>) {
+    show_speeds(&speed::TABLE, files, |file, work| {
+        speed::beside_rust(file, work, REPETITIONS)
+    });
+    if let Some(other) = beside {
+        let speeds = |file: &_, work| speed::beside(&other, file, work, REPETITIONS);
+        show_speeds(&speed::TABLE_BESIDE, files, speeds);
+    }
+}
+
+/// Prints a table of these files.
+fn show_speeds(table: &PairTable, files: &[TimedFile], speeds: impl Fn(&TimedFile, Work) -> Pair) {
+    println!("{}", table.head());
+    for file in files {
+        for work in Work::ALL {
+            let name = format!("{}, {} bytes, {}", file.name, file.bytes(), work.name());
+            println!("{}", table.line(&name, speeds(file, work)));
+        }
+    }
 }
 
 /// Compares the reports and, if they are the same, times the calls on the largest
@@ -151,10 +182,10 @@ fn run_calls(each: bool) -> bool {
         for timed in towers.iter().take(if each { towers.len() } else { 2 }) {
             println!("{}", line(timed.name, times(timed, REPETITIONS)));
         }
-        println!("{}", pair_head("ns per call"));
+        println!("{}", calls::TABLE.head());
         for (call, on) in calls.iter().take(if each { calls.len() } else { 2 }) {
             let times = call.times(on, REPETITIONS);
-            println!("{}", pair_line(&call.name(on), times));
+            println!("{}", calls::TABLE.line(&call.name(on), times));
         }
     }
     same

@@ -51,30 +51,40 @@ pub fn times<V: Versions>(versions: &V, repetitions: u32) -> Times {
     best
 }
 
-/// Nanoseconds per round of two versions.
+/// Nanoseconds per round of two versions, or what comes of them.
 #[derive(Clone, Copy, Debug, PartialEq)]
 pub struct Pair {
-    /// The proved library.
-    pub library: f64,
-    /// The Rust version.
-    pub rust: f64,
+    /// The version that is named first.
+    pub first: f64,
+    /// The other one.
+    pub second: f64,
+}
+
+impl Pair {
+    /// What comes of each.
+    pub fn map(self, of: impl Fn(f64) -> f64) -> Pair {
+        Pair {
+            first: of(self.first),
+            second: of(self.second),
+        }
+    }
 }
 
 /// The best of several repetitions, in which the two take turns.
 pub fn pair(
     repetitions: u32,
     rounds: u64,
-    mut library: impl FnMut(u64) -> u64,
-    mut rust: impl FnMut(u64) -> u64,
+    mut first: impl FnMut(u64) -> u64,
+    mut second: impl FnMut(u64) -> u64,
 ) -> Pair {
     let mut best = Pair {
-        library: f64::INFINITY,
-        rust: f64::INFINITY,
+        first: f64::INFINITY,
+        second: f64::INFINITY,
     };
     for _ in 0..repetitions {
         best = Pair {
-            library: best.library.min(time(rounds, &mut library)),
-            rust: best.rust.min(time(rounds, &mut rust)),
+            first: best.first.min(time(rounds, &mut first)),
+            second: best.second.min(time(rounds, &mut second)),
         };
     }
     best
@@ -128,19 +138,39 @@ pub fn line(name: &str, times: Times) -> String {
     )
 }
 
-/// The first line of a table of two versions.
-pub fn pair_head(what: &str) -> String {
-    format!(
-        "{what:<NAME$} {:>10} {:>10} {:>13}",
-        "library", "Rust", "library/Rust"
-    )
+/// A table of two versions and their ratio.
+pub struct PairTable {
+    /// What its numbers are.
+    pub what: &'static str,
+    /// The names of the two versions.
+    pub versions: [&'static str; 2],
+    /// Digits behind the point.
+    pub digits: usize,
 }
 
-/// One line of it.
-pub fn pair_line(name: &str, pair: Pair) -> String {
-    let Pair { library, rust } = pair;
-    format!(
-        "{name:<NAME$} {library:>10.1} {rust:>10.1} {:>13.2}",
-        library / rust
-    )
+impl PairTable {
+    /// The library beside the Rust version.
+    pub const fn of(what: &'static str) -> PairTable {
+        PairTable {
+            what,
+            versions: ["library", "Rust"],
+            digits: 1,
+        }
+    }
+
+    /// Its first line.
+    pub fn head(&self) -> String {
+        let [first, second] = self.versions;
+        let ratio = self.versions.join("/");
+        format!("{:<NAME$} {first:>10} {second:>10} {ratio:>13}", self.what)
+    }
+
+    /// Another line.
+    pub fn line(&self, name: &str, pair: Pair) -> String {
+        let (Pair { first, second }, digits) = (pair, self.digits);
+        format!(
+            "{name:<NAME$} {first:>10.digits$} {second:>10.digits$} {:>13.2}",
+            first / second
+        )
+    }
 }

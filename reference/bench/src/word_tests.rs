@@ -1,19 +1,24 @@
 //! Tests of the words on the command line.
 
-use crate::words::{parse, Command, Parts, USAGE};
+use crate::words::{parse, Command, Parts, Run, USAGE};
+
+/// The words where a library beside is linked or not.
+fn linked_words(line: &str, linked: bool) -> Result<Command, String> {
+    let words: Vec<String> = line.split_whitespace().map(String::from).collect();
+    parse(&words, linked)
+}
 
 fn words(line: &str) -> Result<Command, String> {
-    let words: Vec<String> = line.split_whitespace().map(String::from).collect();
-    parse(&words)
+    linked_words(line, false)
 }
 
 fn run(parts: Parts, each: bool, towerd: &str) -> Result<Command, String> {
-    let towerd = towerd.to_string();
-    Ok(Command::Run {
+    Ok(Command::Run(Run {
         parts,
         each,
-        towerd,
-    })
+        beside: false,
+        towerd: towerd.to_string(),
+    }))
 }
 
 const NONE: Parts = Parts {
@@ -55,6 +60,30 @@ fn the_words_choose() {
 }
 
 #[test]
+fn the_library_beside_goes_with_file_and_must_be_linked() {
+    let beside = |parts, each, towerd: &str| {
+        Ok(Command::Run(Run {
+            parts,
+            each,
+            beside: true,
+            towerd: towerd.to_string(),
+        }))
+    };
+    let file = Parts { file: true, ..NONE };
+    let linked = |line| linked_words(line, true);
+    assert_eq!(linked("file --beside"), beside(file, false, ""));
+    assert_eq!(linked("--beside --each file"), beside(file, true, ""));
+    let all = beside(Parts::ALL, false, "p");
+    assert_eq!(linked("--beside --towerd p"), all);
+    assert_eq!(linked("file"), run(file, false, ""));
+    let alone = Err("--beside goes with file".into());
+    assert_eq!(linked("force --beside"), alone);
+    assert_eq!(words("calls --beside"), alone);
+    let unlinked = "no library beside is linked: reference/benchmark --beside FOLDER";
+    assert_eq!(words("file --beside"), Err(unlinked.into()));
+}
+
+#[test]
 fn the_words_may_be_wrong_or_ask_for_help() {
     assert_eq!(words("file --help"), Ok(Command::Help));
     assert_eq!(words("files"), Err("unknown word: files".into()));
@@ -63,6 +92,7 @@ fn the_words_may_be_wrong_or_ask_for_help() {
     assert_eq!(words(""), unnamed);
     let missing = Err("--towerd names no program".into());
     assert_eq!(words("pipe --towerd"), missing);
-    let first = "usage: bench [force] [file] [calls] [pipe] [--each] [--towerd PROGRAM]\n";
+    let first =
+        "usage: bench [force] [file] [calls] [pipe] [--each] [--beside] [--towerd PROGRAM]\n";
     assert!(USAGE.starts_with(first));
 }

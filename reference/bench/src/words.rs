@@ -2,7 +2,7 @@
 
 /// What is printed for `--help`.
 pub const USAGE: &str = "\
-usage: bench [force] [file] [calls] [pipe] [--each] [--towerd PROGRAM]
+usage: bench [force] [file] [calls] [pipe] [--each] [--beside] [--towerd PROGRAM]
        bench --help
 
 force: checks that the proved library and the exact Rust version have the same
@@ -12,7 +12,9 @@ and without: the mean, and the section that takes the library longest.
 
 file: checks that the proved library and the Rust version write the same bytes
 for the tower files that they read, then prints the megabytes (10^6 bytes) a
-second that each reads and writes of the largest file.
+second that each reads and writes of the largest file. Then the nanoseconds in
+which the library fetches a field of two or four bytes of it, byte by byte and as
+one number; these numbers are compared with the Rust version's too.
 
 calls: checks that the proved library and the exact Rust version report the same
 numbers for largest towers, then prints the nanoseconds per report of the library,
@@ -31,6 +33,9 @@ answer differs.
 
   --each            also print a line for each section, for smaller files and
                     towers, and for each million
+  --beside          with file: also compare and time the library that
+                    reference/benchmark --beside FOLDER links, by turns with
+                    this repository's
   --towerd PROGRAM  the service program that pipe starts
   --help            print this
 ";
@@ -58,47 +63,56 @@ impl Parts {
     };
 }
 
+/// What is checked and timed, and how.
+#[derive(Clone, Debug, Default, PartialEq, Eq)]
+pub struct Run {
+    /// What.
+    pub parts: Parts,
+    /// With a line for each.
+    pub each: bool,
+    /// With the library beside.
+    pub beside: bool,
+    /// The service program; empty where none is named and none is needed.
+    pub towerd: String,
+}
+
 /// What the words ask for.
 #[derive(Clone, Debug, PartialEq, Eq)]
 pub enum Command {
     /// Print the usage.
     Help,
     /// Check and time.
-    Run {
-        /// What.
-        parts: Parts,
-        /// With a line for each.
-        each: bool,
-        /// The service program; empty where none is named and none is needed.
-        towerd: String,
-    },
+    Run(Run),
 }
 
-/// Reads the words, or says what is wrong with them.
-pub fn parse(words: &[String]) -> Result<Command, String> {
-    let (mut parts, mut each, mut towerd) = (Parts::default(), false, String::new());
+/// Reads the words, or says what is wrong with them; a library beside may be linked.
+pub fn parse(words: &[String], linked: bool) -> Result<Command, String> {
+    let mut run = Run::default();
     let mut words = words.iter();
     while let Some(word) = words.next() {
         match word.as_str() {
-            "force" => parts.force = true,
-            "file" => parts.file = true,
-            "calls" => parts.calls = true,
-            "pipe" => parts.pipe = true,
-            "--each" => each = true,
-            "--towerd" => towerd = words.next().ok_or("--towerd names no program")?.clone(),
+            "force" => run.parts.force = true,
+            "file" => run.parts.file = true,
+            "calls" => run.parts.calls = true,
+            "pipe" => run.parts.pipe = true,
+            "--each" => run.each = true,
+            "--beside" => run.beside = true,
+            "--towerd" => run.towerd = words.next().ok_or("--towerd names no program")?.clone(),
             "--help" => return Ok(Command::Help),
             other => return Err(format!("unknown word: {other}")),
         }
     }
-    if parts == Parts::default() {
-        parts = Parts::ALL;
+    if run.parts == Parts::default() {
+        run.parts = Parts::ALL;
     }
-    if parts.pipe && towerd.is_empty() {
+    if run.parts.pipe && run.towerd.is_empty() {
         return Err("pipe needs --towerd PROGRAM".into());
     }
-    Ok(Command::Run {
-        parts,
-        each,
-        towerd,
-    })
+    if run.beside && !run.parts.file {
+        return Err("--beside goes with file".into());
+    }
+    if run.beside && !linked {
+        return Err("no library beside is linked: reference/benchmark --beside FOLDER".into());
+    }
+    Ok(Command::Run(run))
 }

@@ -102,8 +102,9 @@ fn counts() -> Vec<Case> {
 }
 
 /// Of the crowded file, whose numbers are 0 to 63: an item with the number of
-/// the first, of the last before it or of one between, and with a new one; then
-/// small files with numbers that differ in one byte or in none.
+/// the first, of the last before it or of one between, and with a new one; the
+/// same where all numbers have the same low ten bits; then small files with
+/// numbers that differ in one byte or in none.
 fn item_numbers() -> Vec<Case> {
     let place = |item: usize| 19 + 13 * item;
     let set = |item: usize, number: u16| {
@@ -119,6 +120,10 @@ fn item_numbers() -> Vec<Case> {
     cases.extend([1, 32, 63].map(|number| set(0, number)));
     // new ones: above all, and with a high byte
     cases.extend([64, 255, 256, 319, 16_384, u16::MAX].map(|number| set(63, number)));
+    let alike: Vec<u16> = (0..64).map(|place| 5 + 1024 * place).collect();
+    cases.push(numbered(&alike));
+    cases.extend([5, 5 + 1024 * 31, 5 + 1024 * 62, 6, 0].map(|number| set(63, number)));
+    cases.extend([5, 5 + 1024 * 2, 5 + 1024 * 63].map(|number| set(1, number)));
     cases.extend([0x0100, 0x0001, 0x0101].map(|number| numbered(&[0x0100, 0x0001, number])));
     cases.push(numbered(&[0, 0]));
     cases.push(numbered(&[u16::MAX, 0, u16::MAX]));

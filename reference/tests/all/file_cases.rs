@@ -72,7 +72,7 @@ fn there_are_so_many_lines() {
         ("rooms", 455),
         ("added", 35),
         ("fields", 668),
-        ("rules", 134),
+        ("rules", 143),
         ("pairs of faults", 1_373),
         ("cuts of faults", 273),
         ("drawn", 100),

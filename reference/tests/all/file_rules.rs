@@ -151,6 +151,23 @@ fn an_item_number_is_held_against_the_first_and_the_last_before_it() {
 }
 
 #[test]
+fn numbers_with_the_same_low_bits_are_told_apart() {
+    let mut refusals: BTreeMap<u32, usize> = BTreeMap::new();
+    for case in part("rules") {
+        let whole = match &case.case {
+            Case::File(file) => file,
+            _ => &case.base,
+        };
+        let items = whole.get(19..).unwrap_or(&[]).chunks_exact(13);
+        let alike = |item: &[u8]| u16::from_be_bytes([item[0], item[1]]) % 1024 == 5;
+        if items.len() == 64 && items.into_iter().all(alike) {
+            *refusals.entry(case.refusal()).or_default() += 1;
+        }
+    }
+    assert_eq!(refusals, BTreeMap::from([(0, 3), (10, 6)]));
+}
+
+#[test]
 fn of_two_faults_the_first_counts() {
     let whole = write(&roomy());
     let mut refusals = BTreeSet::new();
