@@ -17,6 +17,7 @@ use crate::outputs::OutputFile;
 
 pub use answers::Program;
 pub use digest::{digest, tower_values};
+pub use fields::{fields, Field};
 pub(crate) use towers::drawn as drawn_tower;
 pub use towers::{crowded, largest, middle, roomy, smallest, triangle};
 

@@ -148,7 +148,8 @@ fn fields_by(reader: Reader, file: &[u8], twos: &[u64], fours: &[u64], out: &mut
     end as u64
 }
 
-// The numbers of the two-byte fields at the first places and of the four-byte fields at the others, put at the start of out.
+// The numbers of the two-byte fields at the first places and of the four-byte fields at the others, put at the start
+// of out.
 #[no_mangle]
 pub extern "C" fn word_fields_bench(
     file: &[u8],

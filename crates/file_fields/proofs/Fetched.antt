@@ -1,4 +1,5 @@
--- A field at a place: its number and the next place, or 2 exactly if fewer bytes than its own remain; and the number from its bytes.
+-- A field at a place: its number and the next place, or 2 exactly if fewer bytes than its own remain; and the number
+-- from its bytes.
 use Prim.Native.Nat.{ℕ, _+_, _-_, _*_, _≤_, _<_}
 use mathlib.Core.Path.{_≡_, refl, ap, ap₂, sym, _∙_}
 use mathlib.Core.List.{List}

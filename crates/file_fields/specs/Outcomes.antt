@@ -37,7 +37,7 @@ abbrev pub SmallField : ℕ → Field → Type 0
 SmallField w (answer.Value v next) = v < 256 ^ w
 SmallField w (answer.Refused e) = Unit {0}
 
--- the field of w bytes at a place, read. Laws `fetched-number` and `fetched-end` in proofs/Fetched: the field's number and the next place, or 2
--- exactly if fewer bytes remain
+-- the field of w bytes at a place, read. Laws `fetched-number` and `fetched-end` in proofs/Fetched: the field's number
+-- and the next place, or 2 exactly if fewer bytes remain
 abbrev pub ReadsField : ℕ → List ℕ → ℕ → Field → Type 0
 ReadsField w s at r = Reads ℕ s (field w (drop at s)) (fieldOutcome r) × SmallField w r

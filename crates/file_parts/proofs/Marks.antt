@@ -12,20 +12,22 @@ use Rattle.model.specs.File.{numbered}
 use Rattle.model.proofs.Lists.{any-append}
 use Rattle.file_fields.proofs.Loops.{take-next}
 
-abbrev pub Marked : List Bool → List Item → Type 0
-Marked marks l = (n : ℕ) → getD marks (n % 1024) false ≡ false → numbered n l ≡ false
+module _ (m : ℕ) where
+  -- a number's mark is at its remainder modulo m
+  abbrev pub Marked : List Bool → List Item → Type 0
+  Marked marks l = (n : ℕ) → getD marks (n % m) false ≡ false → numbered n l ≡ false
 
--- an item more, which leaves its own mark
-pub marked-more : (marks : List Bool) (items : List Item) (i : ℕ) (it : Item) → i < length items → it .number % 1024 < length marks
-    → Marked marks (take i items) → Marked (set marks (it .number % 1024) true) (take (i + 1) (set items i it))
-marked-more marks items i it h k so n e = by-case (eqb (n % 1024) (it .number % 1024)) refl
-  where
-    by-case : (b : Bool) → eqb (n % 1024) (it .number % 1024) ≡ b → numbered n (take (i + 1) (set items i it)) ≡ false
-    by-case true s =
-        let same : n % 1024 ≡ it .number % 1024 = eqb-true _ _ s in
-        absurd (true≢false (sym (getD-set-same marks (it .number % 1024) true false k) ∙ ap (λ (m : ℕ). getD (set marks (it .number % 1024) true) m false) (sym same) ∙ e))
-    by-case false s =
-        let other : n % 1024 ≡ it .number % 1024 → ⊥ = eqb-false _ _ s in
-        let earlier : numbered n (take i items) ≡ false = so n (sym (getD-set-other marks (it .number % 1024) (n % 1024) true false other) ∙ e) in
-        let own : eqb (it .number) n ≡ false = ne-eqb _ _ (λ z. other (ap (λ (m : ℕ). m % 1024) (sym z))) in
-        rw (take-next items i it h, any-append, earlier, own) refl
+  -- an item more, which leaves its own mark
+  pub marked-more : (marks : List Bool) (items : List Item) (i : ℕ) (it : Item) → i < length items → it .number % m < length marks
+      → Marked marks (take i items) → Marked (set marks (it .number % m) true) (take (i + 1) (set items i it))
+  marked-more marks items i it h k so n e = by-case (eqb (n % m) (it .number % m)) refl
+    where
+      by-case : (b : Bool) → eqb (n % m) (it .number % m) ≡ b → numbered n (take (i + 1) (set items i it)) ≡ false
+      by-case true s =
+          let same : n % m ≡ it .number % m = eqb-true _ _ s in
+          absurd (true≢false (sym (getD-set-same marks (it .number % m) true false k) ∙ ap (λ (j : ℕ). getD (set marks (it .number % m) true) j false) (sym same) ∙ e))
+      by-case false s =
+          let other : n % m ≡ it .number % m → ⊥ = eqb-false _ _ s in
+          let earlier : numbered n (take i items) ≡ false = so n (sym (getD-set-other marks (it .number % m) (n % m) true false other) ∙ e) in
+          let differs : eqb (it .number) n ≡ false = ne-eqb _ _ (λ z. other (ap (λ (j : ℕ). j % m) (sym z))) in
+          rw (take-next items i it h, any-append, earlier, differs) refl

@@ -1,5 +1,6 @@
--- Three parts of the file that are read by themselves: a section's fields before its groups, an item behind its number, and the items with their
--- count. Laws `head-first`, `number-first` and `items-last` in proofs/Order: the file is read just so.
+-- Three parts of the file that are read by themselves: a section's fields before its groups, an item behind its number,
+-- and the items with their count. Laws `head-first`, `number-first` and `items-last` in proofs/Order: the file is read
+-- just so.
 use Prim.Native.Nat.{ℕ, _%_}
 use mathlib.Core.List.{List}
 use lib.Dec.{eqb, ltb}

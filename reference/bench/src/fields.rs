@@ -5,6 +5,7 @@ use crate::lent::difference_in;
 use crate::library::{self, Fields};
 use crate::timing::{pair, Pair, PairTable};
 use reference::file::write;
+use reference::file_cases;
 use reference::tower::Tower;
 use std::hint::black_box;
 
@@ -49,48 +50,25 @@ impl Fetch {
 }
 
 /// Where the fields of a file begin.
-#[derive(Debug, Default, PartialEq, Eq)]
+#[derive(Debug, PartialEq, Eq)]
 pub struct Places {
     /// Those of two bytes.
     pub twos: Vec<u64>,
     /// Those of four.
     pub fours: Vec<u64>,
-    /// Where the next one begins.
-    pub end: u64,
 }
 
 impl Places {
     /// Those of a tower's file.
     pub fn of(tower: &Tower) -> Places {
-        let mut places = Places::default();
-        // legs, section count
-        places.pass(&[1, 1]);
-        for section in &tower.sections {
-            // width, height, allowance, group count
-            places.pass(&[2, 2, 4, 1]);
-            for _ in &section.groups {
-                // kind, size, length
-                places.pass(&[1, 2, 4]);
-            }
-        }
-        // item count
-        places.pass(&[1]);
-        for _ in &tower.items {
-            // number, section, width, length, bare, iced, position
-            places.pass(&[2, 1, 2, 2, 2, 2, 2]);
-        }
-        places
-    }
-
-    /// Passes fields of so many bytes each.
-    fn pass(&mut self, fields: &[u64]) {
-        for &bytes in fields {
-            match bytes {
-                2 => self.twos.push(self.end),
-                4 => self.fours.push(self.end),
-                _ => {}
-            }
-            self.end += bytes;
+        let fields = file_cases::fields(tower);
+        let places = |bytes| {
+            let of_bytes = fields.iter().filter(|field| field.bytes == bytes);
+            of_bytes.map(|field| field.place as u64).collect()
+        };
+        Places {
+            twos: places(2),
+            fours: places(4),
         }
     }
 

@@ -25,7 +25,7 @@ Inv-loop file sections count held items₀ marks₀ at₀ i₀ items marks at i 
     × (at ≤ length file)
     × (length items ≡ 64)
     × (length marks ≡ 1024)
-    × Marked marks (take i items)
+    × Marked 1024 marks (take i items)
     × (readItems sections count file ≡ many (readItem sections) (count - i) (take i items) (drop at file))
 
 abbrev μ-loop : tie.MeasureT-loop
@@ -188,7 +188,7 @@ loop-again c =
       here (c .before) .1,
       simp length-set (l .loop .inv .2),
       simp length-set (l .loop .inv .3),
-      rw (mark .0) (marked-more (l .loop .marks) (l .loop .items) (l .loop .i) it (omega arith) (omega (arith, mark .0, mark .1)) (l .loop .inv .4)),
+      rw (mark .0) (marked-more 1024 (l .loop .marks) (l .loop .items) (l .loop .i) it (omega arith) (omega (arith, mark .0, mark .1)) (l .loop .inv .4)),
       part-more (readItem (a .sections)) (a .count) (l .loop .i) (a .file .now) (l .loop .at) next (omega arith) (l .loop .items) it (omega arith) (l .loop .inv .5) (here (c .before) .0),
     )
 
