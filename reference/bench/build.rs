@@ -2,22 +2,30 @@
 
 use std::path::Path;
 
-/// Set by reference/benchmark where it has put a library beside the others.
+/// All are linked.
+const LIBRARIES: [&str; 3] = ["force_bench", "file_bench", "call_bench"];
+
+/// Set by reference/benchmark: of which of them it has put another checkout's beside
+/// this one's.
 const ASKED: &str = "BENCH_BESIDE";
 
 fn main() {
     let folder = Path::new(env!("CARGO_MANIFEST_DIR")).join("../../target/staticlib");
     println!("cargo::rustc-link-search=native={}", folder.display());
-    for name in ["force_bench", "file_bench", "call_bench"] {
-        let run = format!("rt staticlib {name}");
-        link(&folder, name, &run);
+    for name in LIBRARIES {
+        link(&folder, name, &format!("rt staticlib {name}"));
     }
-    println!("cargo::rustc-check-cfg=cfg(beside)");
+    let names = LIBRARIES.map(|name| format!("{name:?}")).join(", ");
+    println!("cargo::rustc-check-cfg=cfg(beside, values({names}))");
     println!("cargo::rerun-if-env-changed={ASKED}");
-    if std::env::var_os(ASKED).is_some_and(|asked| !asked.is_empty()) {
-        println!("cargo::rustc-cfg=beside");
-        let run = "reference/benchmark file --beside FOLDER";
-        link(&folder, "file_bench_beside", run);
+    for name in std::env::var(ASKED).unwrap_or_default().split_whitespace() {
+        if LIBRARIES.contains(&name) {
+            println!("cargo::rustc-cfg=beside={name:?}");
+            let run = "reference/benchmark --beside FOLDER";
+            link(&folder, &format!("{name}_beside"), run);
+        } else {
+            println!("cargo::error={ASKED}: no such library: {name}");
+        }
     }
 }
 

@@ -1,13 +1,19 @@
 //! Single sections under a wind: the cases that the program `force_cases`
 //! reads, a line for each, and what it has to print for them. Lines that are no
-//! case follow, with the message for each.
+//! case follow, with the message for each, and a count of what decided the
+//! forces.
 
+mod beside;
+mod calm;
+mod close;
 mod extremes;
+mod fractions;
 mod ice;
 mod limits;
 mod ratios;
 mod refused;
 mod samples;
+mod ways;
 mod whole;
 
 use crate::areas::item_area;
@@ -19,6 +25,10 @@ use crate::tower::{Item, Legs, Section, Tower, Wind};
 
 pub use refused::{breaking_one_rule, breaking_two_rules, Refused};
 pub use samples::sample_cases;
+pub use ways::{decided, known_way, way, Way};
+
+/// Millionths of mm² under thousandths of N/m² that make up one newton.
+pub const UNITS: u64 = 1_000_000_000_000_000;
 
 /// The section of a tower with one section. Its items may hang on other
 /// sections, and then they do not count.
@@ -52,6 +62,11 @@ impl Case {
     /// The pressure on it.
     pub fn pressure(&self) -> u16 {
         self.wind.pressures[0]
+    }
+
+    /// Pressure times structure factor, in thousandths of N/m².
+    pub fn factored_pressure(&self) -> u64 {
+        u64::from(self.pressure()) * u64::from(self.wind.structure_factor)
     }
 
     /// The exact force on it.
@@ -131,24 +146,31 @@ pub fn all() -> Vec<Case> {
         ice::cases(),
         limits::cases(),
         whole::cases(),
+        fractions::cases(),
+        close::cases(),
+        calm::cases(),
         random_cases(),
     ]
     .concat()
 }
 
 /// `stdin` and `stdout` of the program: all cases, then the refused lines, each
-/// with a sample behind it.
+/// with a sample behind it. At last it prints what decided the forces.
 pub fn files() -> Vec<OutputFile> {
     let (mut stdin, mut stdout) = (String::new(), String::new());
+    let mut ways = Vec::new();
     for case in all() {
         stdin += &case.line();
         stdout += &case.answer();
+        ways.push(way(&case));
     }
     let refused = [breaking_one_rule(), breaking_two_rules()].concat();
     for (refused, case) in refused.iter().zip(sample_cases().iter().cycle()) {
         stdin += &format!("{}\n{}", refused.line, case.line());
         stdout += &format!("error: {}\n{}", refused.message, case.answer());
+        ways.push(way(case));
     }
+    stdout += &decided(&ways);
     let files = [("stdin", stdin), ("stdout", stdout)];
     let file = |(name, text): (_, String)| OutputFile {
         name,
@@ -160,7 +182,8 @@ pub fn files() -> Vec<OutputFile> {
 /// Drawn sections of any kind, some full to the last mm² or nearly so.
 pub fn random_cases() -> Vec<Case> {
     let mut random = Random(0x5eed_0304);
-    (0..1_000).map(|_| random_case(&mut random)).collect()
+    let one = |_| ways::drawn(|| random_case(&mut random));
+    (0..1_000).map(one).collect()
 }
 
 fn random_case(random: &mut Random) -> Case {

@@ -2,6 +2,7 @@
 
 use crate::tower::{ice_thickness, Group, Item, Legs, Member, Section, Tower, Wind};
 use crate::units::{Force, Length};
+use std::iter::repeat_with;
 
 /// Diameters with the pressure at which 2 q d² is 45 000 000 exactly.
 pub const FLOW_LIMITS: [(u32, u16); 6] = [
@@ -55,6 +56,12 @@ impl Random {
     pub fn pick<T: Copy>(&mut self, all: &[T]) -> T {
         all[self.within(0, all.len() as u32 - 1) as usize]
     }
+}
+
+/// Draws until one is wanted.
+pub fn until<T>(draw: impl FnMut() -> T, wanted: impl Fn(&T) -> bool) -> T {
+    let one = repeat_with(draw).find(|one| wanted(one));
+    one.expect("one of endless draws")
 }
 
 /// A flat or a round group.

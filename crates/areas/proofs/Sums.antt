@@ -1,11 +1,13 @@
--- A_f, A_c and A_p, group by group; the items' sum, item by item.
-use Prim.Native.Nat.{ℕ, _+_, _≤_, _<_}
-use mathlib.Core.Path.{_≡_, refl, ap}
+-- A_f, A_c and A_p, group by group; the items' sums of all sections, item by item.
+use Prim.Native.Nat.{ℕ, _+_, _*_, _≤_, _<_}
+use mathlib.Core.Path.{_≡_, refl, ap, sym, _∙_}
 use mathlib.Core.Bool.{Bool, true, false, cond}
 use mathlib.Core.List.{List, []}
 use native.Mathlib.Omega.{arith}
 use lib.Dec.{eqb}
-use lib.ListN.{length, getD, take}
+use lib.ListN.{length, getD, set, take, replicate, length-set, getD-replicate}
+use lib.Seq.{getD-set-same, getD-set-other}
+use borrow.Author.Tests.{eqb-true, eqb-false, ne-eqb}
 use Rattle.units.specs.declared.Length.{Length}
 use Rattle.units.specs.declared.Area.{Area}
 use Rattle.model.specs.declared.Areas.{Areas}
@@ -15,7 +17,7 @@ use Rattle.model.specs.declared.Group.{Group}
 use Rattle.model.specs.declared.Item.{Item}
 use Rattle.model.specs.Lists.{sumBy}
 use Rattle.model.specs.Areas.{sameFlow, flowOf, groupArea, areaIn, areasOf, solidOf}
-use Rattle.model.specs.Force.{itemPart, itemSum}
+use Rattle.model.specs.Force.{itemPart, itemSum, largestItem}
 use Rattle.model.proofs.Lists.{sumBy-none, sumBy-more}
 use Rattle.areas.specs.Sums.{Added}
 use Rattle.areas.proofs.Facts.{GroupFacts, group-bound}
@@ -77,11 +79,66 @@ added class t q g x a r h e s =
       supercritical = rw (h, ← e) (s .2);
     }
 
-pub items-none : (t : Length) (section : ℕ) → itemSum t section [] ≡ 0
+items-none : (t : Length) (section : ℕ) → itemSum t section [] ≡ 0
 unfolding itemSum
 items-none t section = sumBy-none _
 
-pub items-more : (t : Length) (section : ℕ) (l : List Item) (i : ℕ) (d : Item) → i < length l
+items-more : (t : Length) (section : ℕ) (l : List Item) (i : ℕ) (d : Item) → i < length l
     → itemSum t section (take (i + 1) l) ≡ itemSum t section (take i l) + cond (eqb (getD l i d .section) section) (itemPart t (getD l i d)) 0
 unfolding itemSum
 items-more t section l i d h = sumBy-more (λ it. cond (eqb (it .section) section) (itemPart t it) 0) l i d h
+
+-- after n items: each section's sum over them, at most that of n of the largest
+pub record SumsAfter (t : Length) (items : List Item) (n : ℕ) (sums : List ℕ) : Type 0 where
+  pub long : length sums ≡ 32
+  pub sum : (i : ℕ) → i < 32 → getD sums i 0 ≡ itemSum t i (take n items)
+  pub small : (i : ℕ) → i < 32 → getD sums i 0 ≤ n * largestItem
+
+pub sums-none : (t : Length) (items : List Item) → SumsAfter t items 0 (replicate 32 0)
+sums-none t items =
+    record {
+      long = refl;
+      sum = λ i h. getD-replicate {A = ℕ} 32 i 0 0 h ∙ sym (items-none t i);
+      small = λ i h. omega (arith, getD-replicate {A = ℕ} 32 i 0 0 h);
+    }
+
+share-small : (b : Bool) (n : ℕ) → cond b n 0 ≤ n
+share-small true n = omega arith
+share-small false n = omega arith
+
+-- a part goes to the sum of its section alone
+part-added : (sums : List ℕ) (section part i : ℕ) → section < length sums
+    → getD (set sums section (getD sums section 0 + part)) i 0 ≡ getD sums i 0 + cond (eqb section i) part 0
+part-added sums section part i h = by-case (eqb section i) refl
+  where
+    by-case : (b : Bool) → eqb section i ≡ b → getD (set sums section (getD sums section 0 + part)) i 0 ≡ getD sums i 0 + cond b part 0
+    by-case true e = rw (← eqb-true section i e) (getD-set-same sums section _ 0 h)
+    by-case false e = omega (arith, getD-set-other sums section i (getD sums section 0 + part) 0 (λ z. eqb-false section i e (sym z)))
+
+-- one item more
+module _ (t : Length) (items : List Item) (n : ℕ) (d : Item) (h : n < length items) {sums : List ℕ} (s : SumsAfter t items n sums) where
+  abbrev section : ℕ
+  section = getD items n d .section
+
+  -- on one of the 32 sections
+  pub sums-on : {part : ℕ} → part ≡ itemPart t (getD items n d) → part ≤ largestItem → section < 32
+      → SumsAfter t items (n + 1) (set sums section (getD sums section 0 + part))
+  sums-on {part} e b k =
+      let g : section < length sums = omega (arith, s .long) in
+      record {
+        long = length-set sums section _ ∙ s .long;
+        sum = λ i q. part-added sums section part i g ∙ rw (s .sum i q, e, items-more t i items n d h);
+        small = λ i q. omega (arith, part-added sums section part i g, s .small i q, share-small (eqb section i) part);
+      }
+
+  -- on none of them
+  pub sums-off : 32 ≤ section → SumsAfter t items (n + 1) sums
+  sums-off k =
+      record {
+        long = s .long;
+        sum = λ i q.
+            let o : eqb section i ≡ false = ne-eqb section i (λ z. omega (arith, k, q)) in
+            let m = rw o at (items-more t i items n d h) in
+            omega (arith, s .sum i q);
+        small = λ i q. omega (arith, s .small i q);
+      }

@@ -1,13 +1,13 @@
-// Document 01, "The exact force": what the ancillary items of a section add.
+// Document 01, "The exact force": what the ancillary items of each section add.
 ghost use mathlib.Core.Path.{_≡_};
-ghost use mathlib.Core.Bool.{true, cond};
-ghost use Prim.Native.Nat.{_*_, _≤_};
-ghost use lib.Dec.{eqb};
+ghost use mathlib.Core.Bool.{true};
+ghost use Prim.Native.Nat.{_≤_};
 ghost use lib.ListN.{take};
 ghost use Rattle.model.specs.Lists.{allOf};
-ghost use Rattle.model.specs.Force.{itemPart, itemSum, largestItem, largestItems};
+ghost use Rattle.model.specs.Force.{itemPart, largestItem};
 ghost use Rattle.model.specs.Force as force;
 ghost use Rattle.model.specs.File.{fieldsInRange};
+ghost use Rattle.areas.specs.Sums.{ItemSums};
 use crate::section::iced_area;
 use model::Item;
 use units::Length;
@@ -33,26 +33,19 @@ fn item_part(t: Length, it: Item) -> u64
     c * (it.position as u64) * a.0
 }
 
-// The same where the item hangs on the section, else 0.
-fn part_on(t: Length, section: usize, it: Item) -> u64
-    requires { ⌜ (t .0 ≤ 50) × (fieldsInRange it ≡ true) ⌝ }
-    ensures { λ r. ⌜ (r ≡ cond (eqb (it .section) section) (itemPart t it) 0) × (r ≤ largestItem) ⌝ }
-{
-    let hung = it.section as usize;
-    if hung == section {
-        return item_part(t, it);
-    }
-    0
-}
-
-pub fn item_sum(t: Length, section: usize, items: [Item; 64], held: usize) -> u64
+// Of each of 32 sections, the sum over the items that hang on it.
+pub fn item_sums(t: Length, items: [Item; 64], held: usize) -> [u64; 32]
     requires { ⌜ (t .0 ≤ 50) × (held ≤ 64) × (allOf fieldsInRange (take held items) ≡ true) ⌝ }
-    ensures { λ r. ⌜ (r ≡ itemSum t section (take held items)) × (r ≤ largestItems) ⌝ }
+    ensures { λ r. ⌜ ItemSums t (take held items) r ⌝ }
 {
-    let mut sum: u64 = 0;
+    let mut sums = [0u64; 32];
     for i in 0usize..held {
         let it = items[i];
-        sum = sum + part_on(t, section, it);
+        let hung = it.section as usize;
+        if hung < 32 {
+            let so_far = sums[hung];
+            sums[hung] = so_far + item_part(t, it);
+        }
     }
-    sum
+    sums
 }

@@ -3,3 +3,4 @@ pub mod Coefficients
 pub mod Quotient
 pub mod Loads
 pub mod Reported
+pub mod Bounded

@@ -25,8 +25,8 @@ use Rattle.wide.specs.Reaching.{surd}
 use Rattle.wide.proofs.Reach.{whole-reaches}
 
 -- the numerator and the radicand, from the products that code forms
-pub num-sum : (factored inc face items h x y : ℕ) → x ≡ face * inc * (factored * 1_000_000) → y ≡ h * items * factored
-    → x + y ≡ factored * (inc * face * 1_000_000 + items * h)
+pub num-sum : (factored inc face items h x y : ℕ) → x ≡ face * inc * factored → y ≡ h * items * factored
+    → x + y ≡ factored * (inc * face + items * h)
 num-sum factored inc face items h x y ex ey = rw (ex, ey) (omega arith)
 
 pub radicand-is : (factored inc p u o l r x y : ℕ) → r ≡ factored * 1_000_000 * (p * u) * inc → x ≡ r * o → y ≡ r * l
@@ -54,11 +54,11 @@ face-den-bound Four U h = omega (arith, square-bound U U h h)
 face-den-bound Three U h = omega (arith, square-bound U U h h)
 
 module _ (l : Legs) (k factor q : ℕ) (a : Areas) (e items : ℕ) where
-  pub num-is : (factored inc face h : ℕ) → factored ≡ q * factor → inc ≡ incidenceNum l k a e → face ≡ faceNum l a e
+  pub num-is : (factored inc face h : ℕ) → factored ≡ q * factor → inc ≡ incidenceNum l k a e → face ≡ faceNum l a e * 1_000_000
       → h ≡ incidenceDen l (solid a .0) e * faceDen l (solid a .0 + e)
-      → factored * (inc * face * 1_000_000 + items * h) ≡ wholeForm l k factor q a e items .num
+      → factored * (inc * face + items * h) ≡ wholeForm l k factor q a e items .num
   unfolding wholeForm
-  num-is factored inc face h el ei ef eh = rw (el, ei, ef, eh)
+  num-is factored inc face h el ei ef eh = rw (el, ei, ef, eh) (omega arith)
 
   pub num-room : solid a .0 + e ≤ largestGross → q ≤ 5000 → factor ≤ 2000 → items ≤ largestItems
       → wholeForm l k factor q a e items .num < 2 ^ 256

@@ -1,13 +1,13 @@
--- What follows from the promises of `section_load` and `item_sum`: the force is in the band and at most 2²⁷ newtons, it is the same for the same
--- legs, section, items in any order and wind, and it is the report's. `Loaded` and `Summed` are the functions' own contracts, of the values handed
--- over and handed back.
+-- What follows from the promises of `section_load` and `item_sums`: the force is in the band and at most 2²⁷ newtons,
+-- it is the same for the same legs, section, items in any order and wind, and it is the report's. `Loaded` and `Summed`
+-- are the functions' own contracts, of the values handed over and handed back.
 use Prim.Native.Nat.{ℕ, _-_, _^_, _≤_, _<_}
 use mathlib.Core.Path.{_≡_, refl, ap, sym, subst, _∙_}
 use mathlib.Core.Bool.{true}
 use mathlib.Core.List.{List, List·Permᴰ}
 use native.Mathlib.Omega.{arith}
 use borrow.Author.Tests.{le-leb}
-use lib.ListN.{length, take}
+use lib.ListN.{length, take, getD}
 use Rattle.units.specs.declared.Length.{Length}
 use Rattle.units.specs.declared.Area.{Area}
 use Rattle.exact.specs.Fraction.{whole}
@@ -32,14 +32,14 @@ use Rattle.force.specs.declared.Load.{Load}
 use Rattle.areas.specs.Fits.{fitsUnder}
 use Rattle.force.proofs.Loads.{section-known, solid-known}
 use Rattle.force.proofs.section.section_load.Reads as load-reads
-use Rattle.areas.proofs.items.item_sum.Reads as sum-reads
+use Rattle.areas.proofs.items.item_sums.Reads as sum-reads
 
 abbrev pub Loaded : Legs → ℕ → Length → ℕ → stored.Section → ℕ → ℕ → Load → Type 0
 Loaded l k t factor s q items r =
     load-reads.Post tt (l, (k, (t, (factor, (s, (q, (items, tt))))))) r (l, (k, (t, (factor, (s, (q, (items, tt)))))))
 
-abbrev pub Summed : Length → ℕ → List Item → ℕ → ℕ → Type 0
-Summed t i items held n = sum-reads.Post tt (t, (i, (items, (held, tt)))) n (t, (i, (items, (held, tt))))
+abbrev pub Summed : Length → List Item → ℕ → List ℕ → Type 0
+Summed t items held sums = sum-reads.Post tt (t, (items, (held, tt))) sums (t, (items, (held, tt)))
 
 -- exact ≤ force < exact + 1, and so within every wider band: document 01's is 2
 module _ (l : Legs) (k : ℕ) (t : Length) (factor : ℕ) (s : stored.Section) (q items : ℕ) (h : fitsUnder t s ≡ true) where
@@ -76,16 +76,16 @@ module _ (l : Legs) (k : ℕ) (t : Length) (factor : ℕ) (s : stored.Section) (
   load-within p margin m = least-within force-sound force-nonneg margin _ m (p .1)
 
 -- two calls with the same legs, section, wind and items, these in any order
-module _ (l : Legs) (k : ℕ) (t : Length) (factor q i : ℕ) (s s′ : stored.Section) (e : sectionOf s ≡ sectionOf s′)
+module _ (l : Legs) (k : ℕ) (t : Length) (factor q i : ℕ) (h : i < 32) (s s′ : stored.Section) (e : sectionOf s ≡ sectionOf s′)
     (xs ys : List Item) (held held′ : ℕ) (p : List·Permᴰ (take held xs) (take held′ ys)) where
-  pub sum-same : {n m : ℕ} → Summed t i xs held n → Summed t i ys held′ m → n ≡ m
+  pub sum-same : {n m : List ℕ} → Summed t xs held n → Summed t ys held′ m → getD n i 0 ≡ getD m i 0
   unfolding itemSum
-  sum-same a b = a .0 ∙ sumBy-perm _ p ∙ sym (b .0)
+  sum-same a b = a .sum i h ∙ sumBy-perm _ p ∙ sym (b .sum i h)
 
-  pub load-same : {n m : ℕ} {r r′ : Load} → Summed t i xs held n → Summed t i ys held′ m
-      → Loaded l k t factor s q n r → Loaded l k t factor s′ q m r′ → (r .areas ≡ r′ .areas) × (r .force .0 ≡ r′ .force .0)
+  pub load-same : {n m : List ℕ} {r r′ : Load} → Summed t xs held n → Summed t ys held′ m
+      → Loaded l k t factor s q (getD n i 0) r → Loaded l k t factor s′ q (getD m i 0) r′ → (r .areas ≡ r′ .areas) × (r .force .0 ≡ r′ .force .0)
   load-same {n} {m} {r} {r′} a b c d =
-      let g : Least (exactForce l k t factor (sectionOf s′) q m) (r .force .0) = rw (← e, ← sum-same a b) (c .1) in
+      let g : Least (exactForce l k t factor (sectionOf s′) q (getD m i 0)) (r .force .0) = rw (← e, ← sum-same a b) (c .1) in
       (c .0 ∙ ap (λ (x : Section). areasOf t q (x .groups)) e ∙ sym (d .0), least-unique g (d .1))
 
 module _ (t : Tower) (w : Wind) (i : ℕ) (s : stored.Section) (e : sectionOf s ≡ sectionAt t i) where

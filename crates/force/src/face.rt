@@ -1,4 +1,5 @@
 // The coefficients of a face, as whole numbers over `faceDen` of model/specs/WholeForm. s is A_S and e the open area A_u − A_S.
+// A face's sum is in millionths of mm², as the items' sum is.
 ghost use mathlib.Core.Path.{_≡_};
 ghost use Prim.Native.Nat.{_+_, _*_, _^_, _<_, _≤_};
 ghost use Rattle.model.specs.Areas.{solid, largestGross};
@@ -25,7 +26,7 @@ fn quadratic(a: u64, b: u64, c: u64, s: u64, e: u64) -> u64
 
 // x x′ + y y′ + z z′
 fn three_products(x: u64, x1: u64, y: u64, y1: u64, z: u64, z1: u64) -> U128
-    requires { ⌜ (x1 < 2 ^ 60) × (y1 < 2 ^ 60) × (z1 < 2 ^ 60) ⌝ }
+    requires { ⌜ (x1 < 2 ^ 62) × (y1 < 2 ^ 62) × (z1 < 2 ^ 62) ⌝ }
     ensures { λ r. ⌜ value128 r ≡ x * x1 + y * y1 + z * z1 ⌝ }
 {
     let p = wide::product::mul64(x, x1);
@@ -37,30 +38,44 @@ fn three_products(x: u64, x1: u64, y: u64, y1: u64, z: u64, z1: u64) -> U128
 // c_f A_f + c_c A_c + 1.9 A_p on four legs
 fn face_four(f: u64, c: u64, p: u64, e: u64) -> U128
     requires { ⌜ f + c + p + e ≤ largestGross ⌝ }
-    ensures { λ r. ⌜ value128 r ≡ flatNum Four (f + c + p) e * f + subcriticalNum Four (f + c + p) e * c + supercriticalNum Four (f + c + p + e) * p ⌝ }
+    ensures { λ r. ⌜ value128 r ≡ (flatNum Four (f + c + p) e * f + subcriticalNum Four (f + c + p) e * c + supercriticalNum Four (f + c + p + e) * p) * 1_000_000 ⌝ }
 {
     let s = f + c + p;
     let u = s + e;
     let x = quadratic(1, 1, 2, s, e);
     let y = quadratic(16, 9, 18, s, e);
-    three_products(x, 396 * f, y, 25 * c, u * u, 380 * p)
+    three_products(
+        x,
+        396_000_000 * f,
+        y,
+        25_000_000 * c,
+        u * u,
+        380_000_000 * p,
+    )
 }
 
 // and on three
 fn face_three(f: u64, c: u64, p: u64, e: u64) -> U128
     requires { ⌜ f + c + p + e ≤ largestGross ⌝ }
-    ensures { λ r. ⌜ value128 r ≡ flatNum Three (f + c + p) e * f + subcriticalNum Three (f + c + p) e * c + supercriticalNum Three (f + c + p + e) * p ⌝ }
+    ensures { λ r. ⌜ value128 r ≡ (flatNum Three (f + c + p) e * f + subcriticalNum Three (f + c + p) e * c + supercriticalNum Three (f + c + p + e) * p) * 1_000_000 ⌝ }
 {
     let s = f + c + p;
     let u = s + e;
     let x = quadratic(3, 3, 5, s, e);
     let y = quadratic(403, 228, 380, s, e);
-    three_products(x, 3344 * f, y, 25 * c, u * u, 9500 * p)
+    three_products(
+        x,
+        3_344_000_000 * f,
+        y,
+        25_000_000 * c,
+        u * u,
+        9_500_000_000 * p,
+    )
 }
 
 pub(crate) fn face_num(legs: Legs, a: Areas, e: u64) -> U128
     requires { ⌜ solid a .0 + e ≤ largestGross ⌝ }
-    ensures { λ r. ⌜ value128 r ≡ faceNum legs a e ⌝ }
+    ensures { λ r. ⌜ value128 r ≡ faceNum legs a e * 1_000_000 ⌝ }
 {
     let f = a.flat.0;
     let c = a.subcritical.0;

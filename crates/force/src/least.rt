@@ -4,8 +4,10 @@ ghost use Prim.Native.Nat.{_+_, _*_, _^_, _<_, _≤_};
 ghost use Rattle.exact.specs.Number.{Least};
 ghost use Rattle.model.specs.Areas.{solid, largestGross};
 ghost use Rattle.model.specs.Force.{largestItems, exact};
-ghost use Rattle.model.specs.WholeForm.{grossOf, incidenceDen, incidenceNum, faceDen, faceNum, rootNum};
+ghost use Rattle.model.specs.WholeForm.{grossOf, rootNum};
+ghost use Rattle.force.specs.Prepared.{TermsOf};
 ghost use Rattle.wide.specs.Value.{value128, value256, value512};
+use crate::Terms;
 use crate::face::Root;
 use model::Areas;
 use model::Legs;
@@ -19,12 +21,12 @@ use wide::U512;
 const MOST: u64 = 0x800_0000;
 
 // `factored` is the factored pressure q times structure factor, in thousandths of N/m².
-// factored · (incidence · face · 10⁶ + items · divisor)
+// factored · (incidence · face + items · divisor)
 fn numerator(factored: u64, incidence: u64, face: U128, items: u64, divisor: U128) -> U256
-    requires { ⌜ (factored ≤ 10_000_000) × (factored * (incidence * value128 face * 1_000_000 + items * value128 divisor) < 2 ^ 256) ⌝ }
-    ensures { λ r. ⌜ value256 r ≡ factored * (incidence * value128 face * 1_000_000 + items * value128 divisor) ⌝ }
+    requires { ⌜ factored * (incidence * value128 face + items * value128 divisor) < 2 ^ 256 ⌝ }
+    ensures { λ r. ⌜ value256 r ≡ factored * (incidence * value128 face + items * value128 divisor) ⌝ }
 {
-    let x = wide::product::mul192(wide::product::mul128(face, incidence), factored * 1_000_000);
+    let x = wide::product::mul192(wide::product::mul128(face, incidence), factored);
     let y = wide::product::mul192(wide::product::mul128(divisor, items), factored);
     wide::product::add256(x, y)
 }
@@ -46,28 +48,6 @@ fn supercritical_radicand(factored: u64, incidence: u64, p: u64, u: u64, root: R
     wide::product::product256(x, y)
 }
 
-// What the exact force is worked out from, as whole numbers.
-struct Terms {
-    incidence: u64,
-    face: U128,
-    divisor: U128,
-}
-
-fn terms_of(legs: Legs, k: u32, a: Areas, e: u64) -> Terms
-    requires { ⌜ solid a .0 + e ≤ largestGross ⌝ }
-    ensures { λ r. ⌜ (r .incidence ≡ incidenceNum legs k a e) × (value128 (r .face) ≡ faceNum legs a e) × (value128 (r .divisor) ≡ incidenceDen legs (solid a .0) e * faceDen legs (solid a .0 + e)) ⌝ }
-{
-    let s = a.flat.0 + a.subcritical.0 + a.supercritical.0;
-    let incidence = crate::incidence::incidence_num(legs, k, a, e);
-    let face = crate::face::face_num(legs, a, e);
-    let divisor = crate::face::divisor(legs, s, e);
-    Terms {
-        incidence,
-        face,
-        divisor,
-    }
-}
-
 // The radicand; there is none to work out without supercritical members.
 fn radicand(legs: Legs, factored: u64, incidence: u64, a: Areas, e: u64) -> U512
     requires { ⌜ (factored ≤ 10_000_000) × (solid a .0 + e ≤ largestGross) ⌝ }
@@ -87,7 +67,7 @@ fn radicand(legs: Legs, factored: u64, incidence: u64, a: Areas, e: u64) -> U512
     )
 }
 
-// `gap` is the open area A_u − A_S.
+// By squares, where there is a root. `gap` is the open area A_u − A_S.
 pub(crate) fn least_force(
     legs: Legs,
     k: u32,
@@ -96,13 +76,14 @@ pub(crate) fn least_force(
     a: Areas,
     gap: Area,
     items: u64,
+    x: Terms,
 ) -> Force
     requires { ⌜ (0 < solid a .0) × (solid a .0 + gap .0 ≤ largestGross) × (factor ≤ 2000) × (q ≤ 5000) × (items ≤ largestItems) ⌝ }
+    requires { ⌜ TermsOf legs k a (gap .0) x ⌝ }
     ensures { λ r. ⌜ Least (exact legs k factor q (grossOf a (gap .0)) a items) (r .0) ⌝ }
 {
     let e = gap.0;
     let factored = (q as u64) * (factor as u64);
-    let x = terms_of(legs, k, a, e);
     let n = numerator(factored, x.incidence, x.face, items, x.divisor);
     let d = denominator(x.divisor);
     let m = radicand(legs, factored, x.incidence, a, e);

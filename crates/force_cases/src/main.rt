@@ -1,4 +1,5 @@
 // Reads cases from standard input, one a line, and prints for each its areas, the items' sum and the force, or what is wrong with it first.
+// The last line says how many forces each way decided.
 // A line is LEGS K ICE FACTOR PRESSURE WIDTH HEIGHT GROUPCOUNT (KIND SIZE LENGTH)* ITEMCOUNT (SECTION WIDTH LENGTH BARE ICED POSITION)*.
 // The case's section is number 0: items on other sections do not count.
 ghost use Prim.Native.Nat.{_≤_};
@@ -8,7 +9,7 @@ ghost use lib.ListN.{length, take};
 ghost use Rattle.model.specs.Lists.{allOf};
 ghost use Rattle.model.specs.File.{fieldsInRange};
 ghost use Rattle.case_words.specs.Faults.{SoundCase};
-use areas::items::item_sum;
+use areas::items::item_sums;
 use areas::ranges::items_fit;
 use areas::section::thickness;
 use case_words::Case;
@@ -18,7 +19,8 @@ use case_words::faults::fault_of;
 use case_words::faults::groups_end;
 use case_words::items::items_of;
 use force::Load;
-use force::section::section_load;
+use force::Way;
+use force::section::decided_load;
 use libc::STDIN_FILENO;
 use libc::STDOUT_FILENO;
 use lines::Count;
@@ -32,13 +34,37 @@ use model::numbers::legs_of;
 // What a line holds at most: 8 numbers, those of 8 groups, the number of items and those of 64 items.
 const MOST_NUMBERS: usize = 8 + 3 * 8 + 1 + 6 * 64;
 
-// Each function from here to `answer` puts a line of output into out and answers its length.
-fn refuse(out: &mut [u8], why: &[u8]) -> usize
-    ensures { λ r. ⌜ r ≤ length (now (out .entry)) ⌝ }
+// Whether a line is a case, and what decided its force.
+enum Told {
+    Refused,
+    Decided(Way),
+}
+
+// A line of output: its length, and what it tells.
+struct Line {
+    length: usize,
+    told: Told,
+}
+
+// How many forces each way decided.
+struct Counts {
+    no_pressure: u64,
+    bounds: u64,
+    quotient: u64,
+    squares: u64,
+}
+
+// Each function from here to `answer` puts a line of output into out.
+fn refuse(out: &mut [u8], why: &[u8]) -> Line
+    ensures { λ r. ⌜ r .length ≤ length (now (out .entry)) ⌝ }
 {
     let at = put_bytes(out, 0, b"error: ");
     let at = put_bytes(out, at, why);
-    put(out, at, b'\n')
+    let length = put(out, at, b'\n');
+    Line {
+        length,
+        told: Told::Refused,
+    }
 }
 
 fn put_load(out: &mut [u8], load: Load, items: u64) -> usize
@@ -51,22 +77,27 @@ fn put_load(out: &mut [u8], load: Load, items: u64) -> usize
     put_number(out, at, load.force.0, b'\n')
 }
 
-fn answer_case(c: Case, items: [Item; 64], held: usize, out: &mut [u8]) -> usize
+fn answer_case(c: Case, items: [Item; 64], held: usize, out: &mut [u8]) -> Line
     requires { ⌜ SoundCase c × (held ≤ 64) × (allOf fieldsInRange (take held items) ≡ true) ⌝ }
-    ensures { λ r. ⌜ r ≤ length (now (out .entry)) ⌝ }
+    ensures { λ r. ⌜ r .length ≤ length (now (out .entry)) ⌝ }
 {
     let t = thickness(c.ice);
-    let sum = item_sum(t, 0, items, held);
+    let sums = item_sums(t, items, held);
+    let sum = sums[0];
     let legs = legs_of(c.legs);
     let s = c.section;
-    let load = section_load(legs, c.direction, t, c.factor, s, c.pressure, sum);
-    put_load(out, load, sum)
+    let d = decided_load(legs, c.direction, t, c.factor, s, c.pressure, sum);
+    let load = d.load;
+    let length = put_load(out, load, sum);
+    let way = d.way;
+    let told = Told::Decided(way);
+    Line { length, told }
 }
 
 // The items' count stands after the groups.
-fn answer_items(c: Case, numbers: &[u64], out: &mut [u8]) -> usize
+fn answer_items(c: Case, numbers: &[u64], out: &mut [u8]) -> Line
     requires { ⌜ SoundCase c ⌝ }
-    ensures { λ r. ⌜ r ≤ length (now (out .entry)) ⌝ }
+    ensures { λ r. ⌜ r .length ≤ length (now (out .entry)) ⌝ }
 {
     let s = c.section;
     let end = groups_end(s);
@@ -92,8 +123,8 @@ fn answer_items(c: Case, numbers: &[u64], out: &mut [u8]) -> usize
     answer_case(c, items, held, out)
 }
 
-fn answer_numbers(numbers: &[u64], out: &mut [u8]) -> usize
-    ensures { λ r. ⌜ r ≤ length (now (out .entry)) ⌝ }
+fn answer_numbers(numbers: &[u64], out: &mut [u8]) -> Line
+    ensures { λ r. ⌜ r .length ≤ length (now (out .entry)) ⌝ }
 {
     let c = case_of(numbers);
     let fault = fault_of(c, numbers.len());
@@ -114,8 +145,8 @@ fn answer_numbers(numbers: &[u64], out: &mut [u8]) -> usize
     }
 }
 
-fn answer(line: &[u8], numbers: &mut [u64], out: &mut [u8]) -> usize
-    ensures { λ r. ⌜ r ≤ length (now (out .entry)) ⌝ }
+fn answer(line: &[u8], numbers: &mut [u64], out: &mut [u8]) -> Line
+    ensures { λ r. ⌜ r .length ≤ length (now (out .entry)) ⌝ }
 {
     let count = numbers_of(line, numbers);
     match count {
@@ -126,14 +157,59 @@ fn answer(line: &[u8], numbers: &mut [u64], out: &mut [u8]) -> usize
     }
 }
 
+// One more, if it is a case.
+fn counted(c: Counts, told: Told) -> Counts {
+    let mut more = c;
+    match told {
+        Told::Refused => {}
+        Told::Decided(way) => match way {
+            Way::NoPressure => more.no_pressure = std::num::wrapping_add_u64(c.no_pressure, 1),
+            Way::Bounds => more.bounds = std::num::wrapping_add_u64(c.bounds, 1),
+            Way::Quotient => more.quotient = std::num::wrapping_add_u64(c.quotient, 1),
+            Way::Squares => more.squares = std::num::wrapping_add_u64(c.squares, 1),
+        },
+    }
+    more
+}
+
+// A number and what it counts, from place `at` on; answers the next place.
+fn put_count(out: &mut [u8], at: usize, count: u64, what: &[u8]) -> usize
+    requires { ⌜ at ≤ length (now out) ⌝ }
+    ensures { λ r. ⌜ r ≤ length (now (out .entry)) ⌝ }
+{
+    let next = put_number(out, at, count, b' ');
+    put_bytes(out, next, what)
+}
+
+fn put_counts(out: &mut [u8], c: Counts) -> usize
+    ensures { λ r. ⌜ r ≤ length (now (out .entry)) ⌝ }
+{
+    let at = put_bytes(out, 0, b"decided: ");
+    let at = put_count(out, at, c.no_pressure, b"without pressure, ");
+    let at = put_count(out, at, c.bounds, b"by bounds, ");
+    let at = put_count(out, at, c.quotient, b"by the quotient, ");
+    put_count(out, at, c.squares, b"by squares\n")
+}
+
 fn answer_all(text: &[u8], numbers: &mut [u64], out: &mut [u8]) {
+    let mut counts = Counts {
+        no_pressure: 0,
+        bounds: 0,
+        quotient: 0,
+        squares: 0,
+    };
     let mut at: usize = 0;
     while at < text.len() {
         let end = bytes::scan::find(text, at, text.len(), b'\n');
-        let n = answer(&text[at..end], numbers, out);
+        let a = answer(&text[at..end], numbers, out);
+        let n = a.length;
         io::write_all(STDOUT_FILENO, &out[0..n]);
+        let told = a.told;
+        counts = counted(counts, told);
         at = end + 1;
     }
+    let length = put_counts(out, counts);
+    io::write_all(STDOUT_FILENO, &out[0..length]);
 }
 
 // The input may have 500 000 bytes.

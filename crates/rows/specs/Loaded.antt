@@ -7,22 +7,20 @@ use Rattle.units.specs.declared.Force.{Force}
 use Rattle.units.specs.declared.Length.{Length}
 use Rattle.exact.specs.Number.{Least}
 use Rattle.model.specs.declared.Legs.{Legs}
-use Rattle.model.specs.declared.Item.{Item}
 use Rattle.model.specs.declared.Section.{Section}
 use Rattle.model.specs.declared.Wind.{Wind}
 use Rattle.model.specs.Tower.{sectionOf}
 use Rattle.model.specs.Areas.{thickness, areasOf}
-use Rattle.model.specs.Force.{itemSum, exactForce}
+use Rattle.model.specs.Force.{exactForce}
 use Rattle.force.specs.declared.Load.{Load}
 use Rattle.rows.specs.declared.Foot.{Foot}
 
--- document 01's areas, and the least whole number of newtons that is not below its exact force
-pub record LoadOn (legs : Legs) (w : Wind) (s : Section) (i : ℕ) (items : List Item) (r : Load) : Type 0 where
+-- document 01's areas, and the least whole number of newtons not below its exact force with this sum of the items
+pub record LoadOn (legs : Legs) (w : Wind) (s : Section) (i items : ℕ) (r : Load) : Type 0 where
   pub areas : r .areas ≡ areasOf (thickness (w .ice)) (getD (w .pressures) i 0) (sectionOf s .groups)
   pub force :
       Least
-      (exactForce legs (w .direction) (thickness (w .ice)) (w .factor) (sectionOf s) (getD (w .pressures) i 0)
-      (itemSum (thickness (w .ice)) i items))
+      (exactForce legs (w .direction) (thickness (w .ice)) (w .factor) (sectionOf s) (getD (w .pressures) i 0) items)
       (r .force .0)
   pub small : r .force .0 ≤ 2 ^ 27
 

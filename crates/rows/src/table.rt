@@ -14,6 +14,8 @@ ghost use Rattle.rows.specs.Loaded.{rowOf};
 use crate::Foot;
 use crate::feet::next_foot;
 use crate::loads::load_at;
+use areas::items::item_sums;
+use areas::section::thickness;
 use force::Load;
 use model::CheckAnswer;
 use model::Tower;
@@ -42,16 +44,17 @@ pub fn write_rows(t: Tower, w: Wind, out: &mut [u64])
         ≡ report.rowsOf (towerOf t) (windOf (t .count) w) ++ drop (6 * length (towerOf t .sections)) (now (out .entry)) ⌝ }
 {
     let legs = t.legs;
-    let items = t.items;
-    let held = t.held;
     let count = t.count;
+    let items = t.items;
+    let ice = thickness(w.ice);
+    let sums = item_sums(ice, items, t.held);
     let mut foot = Foot {
         shear: Force(0),
         moment: Moment(0),
     };
     for i in 0usize..count {
         let s = t.sections[i];
-        let load = load_at(legs, w, s, i, items, held);
+        let load = load_at(legs, w, s, i, sums[i]);
         foot = next_foot(foot, load.force, s.height);
         let start = 6 * i;
         let end = start + 6;
@@ -75,15 +78,14 @@ pub fn section_over(t: Tower, w: Wind) -> CheckAnswer
     ensures { λ r. ⌜ CheckSays (standing (towerOf t) (some (windOf (t .count) w))) r ⌝ }
 {
     let legs = t.legs;
-    let items = t.items;
-    let held = t.held;
     let count = t.count;
+    let items = t.items;
+    let sums = item_sums(thickness(w.ice), items, t.held);
     let mut shear = Force(0);
     for i in 0usize..count {
         let s = t.sections[i];
-        let load = load_at(legs, w, s, i, items, held);
-        let sum = shear.0 + load.force.0;
-        shear = Force(sum);
+        let own = load_at(legs, w, s, i, sums[i]).force;
+        shear = Force(shear.0 + own.0);
         if exceeds(shear, s.allowance) {
             return CheckAnswer::Over(i);
         }

@@ -1,8 +1,8 @@
 //! Tests of the timed towers and their calls, with the library linked.
 
-use crate::calls::{mast, timed_calls, timed_towers, with_room, Call, TimedTower};
-use crate::library::{self, Windy};
-use crate::timing::Versions;
+use crate::calls::{mast, timed_calls, timed_towers, with_room, Call, TimedCall, TimedTower};
+use crate::library::{Calls, Library, Windy};
+use crate::proved::{InRust, Proved, Versions};
 use crate::towers::{self, Rounds};
 use reference::draw::{self, Random};
 use reference::file::{read, write};
@@ -58,7 +58,10 @@ fn drawn() -> Vec<TimedTower> {
 #[test]
 fn the_reports_are_the_same_and_the_plain_one_is_near() {
     for timed in timed_towers().iter().chain(&drawn()) {
-        assert_eq!(timed.difference(), None);
+        for library in Calls::all(true) {
+            assert_eq!(timed.difference(&library), None);
+        }
+        assert_eq!(timed.plain_difference(), None);
     }
 }
 
@@ -66,7 +69,9 @@ fn the_reports_are_the_same_and_the_plain_one_is_near() {
 fn every_report_is_accepted_in_each_version() {
     for timed in [timed_towers().remove(0), mast()] {
         for rounds in [0, 1, 2, 5] {
-            assert_eq!(timed.library(rounds), rounds);
+            for library in Calls::all(true) {
+                assert_eq!(timed.library(&library, rounds), rounds);
+            }
             assert_eq!(timed.plain(rounds), rounds);
             assert_eq!(timed.exact(rounds), rounds);
         }
@@ -85,11 +90,6 @@ fn the_library_leaves_the_numbers_beyond_the_rows_and_all_after_a_refusal() {
         .iter()
         .flat_map(|row| row.numbers())
         .collect();
-    for rounds in [1, 2, 7] {
-        let mut lent = vec![9; 3 * ROW + 4];
-        assert_eq!(library::report(&windy, rounds, &mut lent), rounds);
-        assert_eq!(lent, [&numbers[..], &[9; 4]].concat());
-    }
     let still = Wind {
         pressures: vec![1_000; 2],
         ..wind.clone()
@@ -100,22 +100,35 @@ fn the_library_leaves_the_numbers_beyond_the_rows_and_all_after_a_refusal() {
         (&file, &still, 22),
         (cut, &wind, 22),
     ];
-    for (file, wind, room) in refused {
-        let mut lent = vec![9; room];
-        assert_eq!(library::report(&Windy { file, wind }, 3, &mut lent), 0);
-        assert_eq!(lent, vec![9; room]);
+    for library in Calls::all(true) {
+        for rounds in [1, 2, 7] {
+            let mut lent = vec![9; 3 * ROW + 4];
+            assert_eq!(library.report(&windy, rounds, &mut lent), rounds);
+            assert_eq!(lent, [&numbers[..], &[9; 4]].concat());
+        }
+        for (file, wind, room) in refused {
+            let mut lent = vec![9; room];
+            assert_eq!(library.report(&Windy { file, wind }, 3, &mut lent), 0);
+            assert_eq!(lent, vec![9; room]);
+        }
+        assert_eq!(library.report(&windy, 0, &mut [9; 22]), 0);
     }
-    assert_eq!(library::report(&windy, 0, &mut [9; 22]), 0);
+}
+
+/// Each library and the Rust version accept so many of the calls of these rounds.
+fn accept(timed: &TimedCall, rounds: u64, accepted: u64) {
+    let name = timed.name();
+    for library in Calls::all(true) {
+        assert_eq!(timed.library(&library, rounds), accepted, "{name}");
+    }
+    assert_eq!(timed.rust(rounds), accepted, "{name}");
 }
 
 #[test]
 fn the_timed_calls_are_all_accepted() {
-    for (call, on) in timed_calls() {
-        assert_eq!(call.difference(&on), None);
+    for timed in timed_calls() {
         for rounds in [0, 1, 2_500] {
-            let all = rounds * call.in_round();
-            assert_eq!(call.library(&on, rounds), all, "{}", call.name(&on));
-            assert_eq!(call.rust(&on, rounds), all, "{}", call.name(&on));
+            accept(&timed, rounds, rounds * timed.in_round());
         }
     }
 }
@@ -124,39 +137,39 @@ fn the_timed_calls_are_all_accepted() {
 /// for it.
 #[test]
 fn the_versions_count_the_same_calls_where_some_are_turned_down() {
-    let full = timed_towers().remove(0);
-    assert_eq!(Call::Hang.library(&full, 10), 0);
-    assert_eq!(Call::Hang.rust(&full, 10), 0);
+    let call = Call::Hang;
+    let on = timed_towers().remove(0);
+    accept(&TimedCall { call, on }, 10, 0);
     let tower = Tower {
         items: vec![item(3), item(4), item(1_007)],
         ..towers::tower(Rounds::Thin, 2, 0)
     };
     let wind = sample_wind(&tower, 0, 0);
-    let numbered = TimedTower::new("numbered", tower, wind);
+    let on = TimedTower::new("numbered", tower, wind);
+    let numbered = TimedCall { call, on };
     for (rounds, accepted) in [(3, 6), (4, 7), (5, 8), (6, 10), (1_005, 2_008)] {
-        assert_eq!(Call::Hang.library(&numbered, rounds), accepted);
-        assert_eq!(Call::Hang.rust(&numbered, rounds), accepted);
+        accept(&numbered, rounds, accepted);
     }
     let file = write(&towers::tower(Rounds::Thin, 2, 0));
     let windy = Windy {
         file: &file[..9],
         wind: &towers::wind(&towers::tower(Rounds::Thin, 2, 0)),
     };
-    assert_eq!(library::erect(&windy, 5), 0);
-    assert_eq!(library::hang(&windy, 5), 0);
+    for library in Calls::all(true) {
+        assert_eq!(library.erect(&windy, 5), 0);
+        assert_eq!(library.hang(&windy, 5), 0);
+    }
 }
 
 #[test]
-fn the_calls_have_names() {
-    let names: Vec<String> = timed_calls()
-        .iter()
-        .map(|(call, on)| call.name(on))
-        .collect();
+fn the_calls_have_names_and_two_of_a_round_half_its_time() {
+    let calls = timed_calls();
+    let named = calls.iter().map(|timed| (timed.name(), timed.number(30.0)));
     let wanted = [
-        "hang, take down: 32 sections, 63 items",
-        "erect: 2915 bytes",
-        "hang, take down: 12 sections, 8 items",
-        "erect: 887 bytes",
+        ("hang, take down: 32 sections, 63 items", 15.0),
+        ("erect: 2915 bytes", 30.0),
+        ("hang, take down: 12 sections, 8 items", 15.0),
+        ("erect: 887 bytes", 30.0),
     ];
-    assert_eq!(names, wanted);
+    assert!(named.eq(wanted.map(|(name, time)| (name.to_string(), time))));
 }

@@ -1,7 +1,7 @@
 //! The calls on a tower under a wind, in the library and in Rust.
 
-use crate::library::{self, Windy};
-use crate::timing::{pair, Pair, PairTable, Versions};
+use crate::library::{Calls, Library, Windy};
+use crate::proved::{InRust, Proved, Versions};
 use crate::towers::{self, dish, Rounds, SECTIONS};
 use reference::file::write;
 use reference::plain;
@@ -84,22 +84,12 @@ impl TimedTower {
         lent
     }
 
-    /// Says where the reports of the library and of the exact version differ, if
-    /// they do, or where the plain one is not near them.
-    pub fn difference(&self) -> Option<String> {
-        let exact = self.exact_numbers();
-        let mut lent = vec![0; self.room()];
-        let accepted = library::report(&self.windy(), 1, &mut lent);
-        let place = lent.iter().zip(&exact).position(|(l, r)| l != r);
-        let far = self.far_off();
-        let differs = if accepted != 1 {
-            "the library turns the report down".to_string()
-        } else if let Some(place) = place {
-            format!("the reports differ from number {place} on")
-        } else {
-            format!("the plain row {} is not near the exact one", far?)
-        };
-        Some(format!("{}: {differs}", self.name))
+    /// Says where the plain report is not near the exact one, if it is not.
+    pub fn plain_difference(&self) -> Option<String> {
+        let (name, row) = (self.name, self.far_off()?);
+        Some(format!(
+            "{name}: the plain row {row} is not near the exact one"
+        ))
     }
 
     /// The first row of the plain version with other areas, or with a force that
@@ -153,17 +143,42 @@ pub fn with_room() -> TimedTower {
 }
 
 /// Reports.
-impl Versions for TimedTower {
-    const FAST_ROUNDS: u64 = 400;
-    const EXACT_ROUNDS: u64 = 2;
+impl Proved for TimedTower {
+    type Library = Calls;
+    const WHAT: &'static str = "ns per report";
 
-    fn library(&self, rounds: u64) -> u64 {
+    fn name(&self) -> String {
+        self.name.to_string()
+    }
+
+    fn rounds(&self) -> u64 {
+        400
+    }
+
+    fn library(&self, library: &Calls, rounds: u64) -> u64 {
         let mut lent = vec![0; self.room()];
-        let accepted = library::report(&self.windy(), rounds, &mut lent);
+        let accepted = library.report(&self.windy(), rounds, &mut lent);
         assert_eq!(accepted, rounds, "{}", self.name);
         black_box(lent);
         accepted
     }
+
+    fn difference(&self, library: &Calls) -> Option<String> {
+        let mut lent = vec![0; self.room()];
+        let accepted = library.report(&self.windy(), 1, &mut lent);
+        let exact = self.exact_numbers();
+        let differs = if accepted != 1 {
+            "turns the report down".to_string()
+        } else {
+            let place = lent.iter().zip(&exact).position(|(l, r)| l != r)?;
+            format!("reports other numbers from place {place} on")
+        };
+        Some(format!("{}: {} {differs}", self.name, library.whose()))
+    }
+}
+
+impl Versions for TimedTower {
+    const EXACT_ROUNDS: u64 = 2;
 
     fn plain(&self, rounds: u64) -> u64 {
         for _ in 0..rounds {
@@ -183,9 +198,6 @@ impl Versions for TimedTower {
     }
 }
 
-/// Of the calls that are timed in two versions.
-pub const TABLE: PairTable = PairTable::of("ns per call");
-
 /// A call that is timed in two versions.
 #[derive(Clone, Copy, Debug, PartialEq, Eq)]
 pub enum Call {
@@ -195,81 +207,88 @@ pub enum Call {
     Erect,
 }
 
-impl Call {
-    /// The name of its line in the table.
-    pub fn name(self, timed: &TimedTower) -> String {
-        match self {
-            Call::Hang => format!("hang, take down: {}", timed.name),
-            Call::Erect => format!("erect: {} bytes", timed.file.len()),
-        }
-    }
+/// A call on a tower.
+pub struct TimedCall {
+    /// The call.
+    pub call: Call,
+    /// The tower.
+    pub on: TimedTower,
+}
 
+impl TimedCall {
     /// Calls in a round.
-    pub fn in_round(self) -> u64 {
-        match self {
+    pub fn in_round(&self) -> u64 {
+        match self.call {
             Call::Hang => 2,
             Call::Erect => 1,
         }
     }
+}
 
-    /// Rounds in each repetition.
-    fn rounds(self) -> u64 {
-        match self {
+/// The versions answer how many calls are accepted.
+impl Proved for TimedCall {
+    type Library = Calls;
+    const WHAT: &'static str = "ns per call";
+
+    fn name(&self) -> String {
+        match self.call {
+            Call::Hang => format!("hang, take down: {}", self.on.name),
+            Call::Erect => format!("erect: {} bytes", self.on.file.len()),
+        }
+    }
+
+    fn rounds(&self) -> u64 {
+        match self.call {
             Call::Hang => 5_000,
             Call::Erect => 1_000,
         }
     }
 
-    /// Nanoseconds a call.
-    pub fn times(self, timed: &TimedTower, repetitions: u32) -> Pair {
-        let calls = self.in_round() as f64;
-        let library = |rounds| self.library(timed, rounds);
-        let rust = |rounds| self.rust(timed, rounds);
-        pair(repetitions, self.rounds(), library, rust).map(|round| round / calls)
-    }
-
-    /// So many rounds of the library, and how many calls are accepted.
-    pub fn library(self, timed: &TimedTower, rounds: u64) -> u64 {
-        let call = match self {
-            Call::Hang => library::hang,
-            Call::Erect => library::erect,
+    fn library(&self, library: &Calls, rounds: u64) -> u64 {
+        let call = match self.call {
+            Call::Hang => Calls::hang,
+            Call::Erect => Calls::erect,
         };
-        call(&timed.windy(), rounds)
+        call(library, &self.on.windy(), rounds)
     }
 
-    /// The same in the Rust version.
-    pub fn rust(self, timed: &TimedTower, rounds: u64) -> u64 {
-        let mut service = timed.service.clone();
-        let accepted = |round: u64| match self {
+    fn difference(&self, library: &Calls) -> Option<String> {
+        let all = 3 * self.in_round();
+        let (accepted, rust) = (self.library(library, 3), self.rust(3));
+        let (name, whose) = (self.name(), library.whose());
+        let differ = || format!("{name}: of {all} calls {whose} accepts {accepted}, Rust {rust}");
+        ((accepted, rust) != (all, all)).then(differ)
+    }
+
+    fn number(&self, nanoseconds: f64) -> f64 {
+        nanoseconds / self.in_round() as f64
+    }
+}
+
+impl InRust for TimedCall {
+    fn rust(&self, rounds: u64) -> u64 {
+        let mut service = self.on.service.clone();
+        let accepted = |round: u64| match self.call {
             Call::Hang => {
                 let dish = black_box(dish(round));
                 let hung = service.hang(dish).is_ok();
                 let taken = black_box(&mut service).take_down(dish.number).is_ok();
                 u64::from(hung) + u64::from(taken)
             }
-            Call::Erect => u64::from(service.erect(black_box(&timed.file)).is_ok()),
+            Call::Erect => u64::from(service.erect(black_box(&self.on.file)).is_ok()),
         };
         (0..rounds).map(accepted).sum()
-    }
-
-    /// Says how the numbers of accepted calls differ, if they do.
-    pub fn difference(self, timed: &TimedTower) -> Option<String> {
-        let all = 3 * self.in_round();
-        let (library, rust) = (self.library(timed, 3), self.rust(timed, 3));
-        let name = self.name(timed);
-        let differ =
-            || format!("{name}: of {all} calls the library accepts {library}, Rust {rust}");
-        ((library, rust) != (all, all)).then(differ)
     }
 }
 
 /// Those that are timed in two versions, the two on largest towers first.
-pub fn timed_calls() -> Vec<(Call, TimedTower)> {
+pub fn timed_calls() -> Vec<TimedCall> {
     let largest = timed_towers().remove(0);
-    vec![
+    let calls = [
         (Call::Hang, with_room()),
         (Call::Erect, largest),
         (Call::Hang, mast()),
         (Call::Erect, mast()),
-    ]
+    ];
+    calls.map(|(call, on)| TimedCall { call, on }).into()
 }

@@ -1,27 +1,27 @@
 //! Tests of the tower files, their bytes and the table, with the library linked.
 
-use crate::file::{timed_files, TimedFile, Work};
+use crate::file::{megabytes, timed_files, TimedFile};
 use crate::lent::difference_in;
-use crate::library::{Files, BESIDE, FILES};
-use crate::speed::{beside, megabytes, TABLE, TABLE_BESIDE};
-use crate::timing::Pair;
+use crate::library::{Files, Library};
+use crate::proved::Proved;
 use reference::draw::{small_tower, Random};
 use reference::file::{read, write};
 use reference::file_cases::{largest, triangle};
 
 #[test]
 fn the_largest_file_comes_first() {
-    let files: Vec<(&str, usize)> = timed_files()
-        .iter()
-        .map(|file| (file.name, file.bytes()))
-        .collect();
+    let names: Vec<String> = timed_files().iter().map(Proved::name).collect();
     let wanted = [
-        ("largest", 2_915),
-        ("middle", 381),
-        ("triangle", 118),
-        ("smallest", 19),
+        "largest, 2915 bytes, read",
+        "largest, 2915 bytes, write",
+        "middle, 381 bytes, read",
+        "middle, 381 bytes, write",
+        "triangle, 118 bytes, read",
+        "triangle, 118 bytes, write",
+        "smallest, 19 bytes, read",
+        "smallest, 19 bytes, write",
     ];
-    assert_eq!(files, wanted);
+    assert_eq!(names, wanted);
 }
 
 #[test]
@@ -30,13 +30,11 @@ fn the_library_and_the_rust_version_give_the_same_bytes() {
     let drawn = (0..200).map(|_| small_tower(&mut random, 8));
     let accepted = drawn.filter(|tower| read(&write(tower)).is_ok());
     let mut files = timed_files();
-    files.extend(accepted.map(|tower| TimedFile::new("drawn", tower)));
-    assert!(files.len() >= 100);
+    files.extend(accepted.flat_map(|tower| TimedFile::both("drawn", &tower)));
+    assert!(files.len() >= 200);
     for file in files {
-        for library in linked() {
-            for work in Work::ALL {
-                assert_eq!(file.difference(&library, work), None);
-            }
+        for library in Files::all(true) {
+            assert_eq!(file.difference(&library), None);
         }
     }
 }
@@ -60,19 +58,14 @@ fn a_difference_is_said() {
     assert_eq!(said(3, &[7, 8, 9, 1, 2]), from(4));
 }
 
-/// This repository's library, and one beside it if it is linked.
-fn linked() -> impl Iterator<Item = Files> {
-    [Some(FILES), BESIDE].into_iter().flatten()
-}
-
-/// Both functions of each.
+/// Both functions of each linked library.
 fn calls() -> impl Iterator<Item = impl Fn(&[u8], u64, &mut [u8]) -> u64> {
     let both = |library: Files| {
         [Files::read, Files::write].map(|call| {
             move |file: &[u8], rounds, out: &mut [u8]| call(&library, file, rounds, out)
         })
     };
-    linked().flat_map(both)
+    Files::all(true).flat_map(both)
 }
 
 #[test]
@@ -104,32 +97,9 @@ fn the_library_turns_down_a_refused_file_and_lent_bytes_that_are_too_few() {
 }
 
 #[test]
-fn the_table_has_megabytes_and_their_ratio() {
+fn the_table_has_megabytes_a_second() {
     // 2 915 bytes in 5 830 ns are 500 bytes a microsecond
     assert_eq!(megabytes(2_915, 5_830.0), 500.0);
-    let speeds = Pair {
-        first: 500.0,
-        second: 400.04,
-    };
-    let name = "largest, 2915 bytes, read";
-    let shown = TABLE.line(name, speeds);
-    assert_eq!(shown.len(), TABLE.head().len());
-    assert!(TABLE.head().ends_with(" library/Rust"));
-    assert_eq!(shown, TABLE_BESIDE.line(name, speeds));
-    assert!(TABLE_BESIDE.head().ends_with(" this/beside"));
-    let words: Vec<&str> = shown.split_whitespace().collect();
-    let wanted = [
-        "largest,", "2915", "bytes,", "read", "500.0", "400.0", "1.25",
-    ];
-    assert_eq!(words, wanted);
-}
-
-#[test]
-fn a_library_may_be_timed_beside_another() {
-    for library in linked() {
-        for work in Work::ALL {
-            let speeds = beside(&library, &timed_files()[0], work, 1);
-            assert!(speeds.first > 0.0 && speeds.second > 0.0);
-        }
-    }
+    assert_eq!(timed_files()[0].number(5_830.0), 500.0);
+    assert_eq!(timed_files()[0].rounds(), 1_373);
 }

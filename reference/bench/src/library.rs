@@ -2,11 +2,133 @@
 
 use reference::tower::Wind;
 
+/// The functions of a proved library.
+pub trait Library: Copy + 'static {
+    /// Those of this repository.
+    const THIS: Self;
+    /// Those of another checkout, if its library is linked.
+    const BESIDE: Option<Self>;
+    /// Functions that do nothing and answer 1.
+    #[cfg(test)]
+    const WRONG: Self;
+
+    /// Whose they are.
+    fn whose(&self) -> &'static str;
+
+    /// Those of another checkout, if they are asked for.
+    fn beside(asked: bool) -> Option<Self> {
+        Self::BESIDE.filter(|_| asked)
+    }
+
+    /// Those of this repository, and of another checkout if they are asked for.
+    fn all(beside: bool) -> impl Iterator<Item = Self> {
+        [Some(Self::THIS), Self::beside(beside)]
+            .into_iter()
+            .flatten()
+    }
+}
+
+/// A struct of a library's functions by their names, and a type for those that take
+/// the same. Of another checkout they are linked by names that end in `_beside`.
+macro_rules! library {
+    (
+        $(#[$about:meta])* $library:ident of $name:literal
+        $($(#[$takes:meta])* $kind:ident $arguments:tt: $($function:ident),+;)+
+    ) => {
+        $($(#[$takes])* type $kind = unsafe extern "C" fn $arguments -> u64;)+
+
+        $(#[$about])*
+        #[derive(Clone, Copy)]
+        pub struct $library {
+            whose: &'static str,
+            $($($function: $kind,)+)+
+        }
+
+        impl Library for $library {
+            const THIS: Self = {
+                extern "C" {
+                    $($(fn $function $arguments -> u64;)+)+
+                }
+                $library { whose: "the library", $($($function,)+)+ }
+            };
+
+            #[cfg(beside = $name)]
+            const BESIDE: Option<Self> = {
+                extern "C" {
+                    $($(
+                        #[link_name = concat!(stringify!($function), "_beside")]
+                        fn $function $arguments -> u64;
+                    )+)+
+                }
+                Some($library { whose: "the library beside", $($($function,)+)+ })
+            };
+            #[cfg(not(beside = $name))]
+            const BESIDE: Option<Self> = None;
+
+            #[cfg(test)]
+            const WRONG: Self = {
+                $($(
+                    #[allow(unused_variables)]
+                    extern "C" fn $function $arguments -> u64 { 1 }
+                )+)+
+                $library { whose: "a wrong library", $($($function,)+)+ }
+            };
+
+            fn whose(&self) -> &'static str {
+                self.whose
+            }
+        }
+    };
+}
+
+// A slice is a pointer, then its length.
+
+library! {
+    /// The function of a library on a section.
+    Forces of "force_bench"
+    /// Takes the words of a section and the rounds.
+    OnWords(words: *const u64, count: usize, rounds: u64): force_bench;
+}
+
+impl Forces {
+    /// The sum of so many forces modulo 2⁶⁴, or `u64::MAX` for words that are no
+    /// section.
+    pub fn sum(&self, words: &[u64], rounds: u64) -> u64 {
+        // SAFETY: the pointer and the length are those of a slice that is only read.
+        unsafe { (self.force_bench)(words.as_ptr(), words.len(), rounds) }
+    }
+}
+
+library! {
+    /// The functions of a library on a tower file.
+    Files of "file_bench"
+    /// Takes a tower file, the rounds and lent bytes.
+    OnFile(file: *const u8, bytes: usize, rounds: u64, out: *mut u8, room: usize):
+        read_bench, write_bench;
+}
+
+fn on_file(call: OnFile, file: &[u8], rounds: u64, out: &mut [u8]) -> u64 {
+    let (bytes, room) = (file.len(), out.len());
+    // SAFETY: the pointers and the lengths are those of two slices that do not
+    // overlap; the first is only read.
+    unsafe { call(file.as_ptr(), bytes, rounds, out.as_mut_ptr(), room) }
+}
+
+impl Files {
+    /// Reads a tower file so many times and writes the last tower into `out`. The
+    /// file's length, or `u64::MAX` if it is refused, does not fit or is never read.
+    pub fn read(&self, file: &[u8], rounds: u64, out: &mut [u8]) -> u64 {
+        on_file(self.read_bench, file, rounds, out)
+    }
+
+    /// Reads a tower file and writes its tower into `out` so many times. The same
+    /// answers.
+    pub fn write(&self, file: &[u8], rounds: u64, out: &mut [u8]) -> u64 {
+        on_file(self.write_bench, file, rounds, out)
+    }
+}
+
 extern "C" {
-    /// A slice is a pointer, then its length.
-    fn force_bench(words: *const u64, count: usize, rounds: u64) -> u64;
-    fn read_bench(file: *const u8, bytes: usize, rounds: u64, out: *mut u8, room: usize) -> u64;
-    fn write_bench(file: *const u8, bytes: usize, rounds: u64, out: *mut u8, room: usize) -> u64;
     fn byte_fields_bench(
         file: *const u8,
         bytes: usize,
@@ -27,103 +149,7 @@ extern "C" {
         out: *mut u64,
         room: usize,
     ) -> u64;
-    fn report_bench(
-        file: *const u8,
-        bytes: usize,
-        direction: u32,
-        ice: u32,
-        factor: u32,
-        pressures: *const u16,
-        sections: usize,
-        rounds: u64,
-        out: *mut u64,
-        room: usize,
-    ) -> u64;
-    fn hang_bench(
-        file: *const u8,
-        bytes: usize,
-        direction: u32,
-        ice: u32,
-        factor: u32,
-        pressures: *const u16,
-        sections: usize,
-        rounds: u64,
-    ) -> u64;
-    fn erect_bench(
-        file: *const u8,
-        bytes: usize,
-        direction: u32,
-        ice: u32,
-        factor: u32,
-        pressures: *const u16,
-        sections: usize,
-        rounds: u64,
-    ) -> u64;
 }
-
-// The library of another checkout, its functions renamed.
-#[cfg(beside)]
-extern "C" {
-    fn read_bench_beside(f: *const u8, b: usize, rounds: u64, out: *mut u8, room: usize) -> u64;
-    fn write_bench_beside(f: *const u8, b: usize, rounds: u64, out: *mut u8, room: usize) -> u64;
-}
-
-/// The sum of so many forces modulo 2⁶⁴, or `u64::MAX` for words that are no
-/// section.
-pub fn sum(words: &[u64], rounds: u64) -> u64 {
-    // SAFETY: the pointer and the length are those of a slice that is only read.
-    unsafe { force_bench(words.as_ptr(), words.len(), rounds) }
-}
-
-/// A function that takes a tower file, the rounds and lent bytes.
-type OnFile = unsafe extern "C" fn(*const u8, usize, u64, *mut u8, usize) -> u64;
-
-fn on_file(call: OnFile, file: &[u8], rounds: u64, out: &mut [u8]) -> u64 {
-    let (bytes, room) = (file.len(), out.len());
-    // SAFETY: the pointers and the lengths are those of two slices that do not
-    // overlap; the first is only read.
-    unsafe { call(file.as_ptr(), bytes, rounds, out.as_mut_ptr(), room) }
-}
-
-/// The functions of a library on a tower file.
-#[derive(Clone, Copy)]
-pub struct Files {
-    /// Whose they are.
-    pub name: &'static str,
-    read: OnFile,
-    write: OnFile,
-}
-
-impl Files {
-    /// Reads a tower file so many times and writes the last tower into `out`. The
-    /// file's length, or `u64::MAX` if it is refused, does not fit or is never read.
-    pub fn read(&self, file: &[u8], rounds: u64, out: &mut [u8]) -> u64 {
-        on_file(self.read, file, rounds, out)
-    }
-
-    /// Reads a tower file and writes its tower into `out` so many times. The same
-    /// answers.
-    pub fn write(&self, file: &[u8], rounds: u64, out: &mut [u8]) -> u64 {
-        on_file(self.write, file, rounds, out)
-    }
-}
-
-/// Those of this repository.
-pub const FILES: Files = Files {
-    name: "the library",
-    read: read_bench,
-    write: write_bench,
-};
-
-/// Those of another checkout, if its library is linked.
-#[cfg(beside)]
-pub const BESIDE: Option<Files> = Some(Files {
-    name: "the library beside",
-    read: read_bench_beside,
-    write: write_bench_beside,
-});
-#[cfg(not(beside))]
-pub const BESIDE: Option<Files> = None;
 
 /// A file, and places of fields of two bytes and of four in it.
 #[derive(Clone, Copy)]
@@ -178,6 +204,35 @@ pub fn word_fields(fields: &Fields, out: &mut [u64]) -> u64 {
     on_fields(word_fields_bench, fields, out)
 }
 
+library! {
+    /// The functions of a library on a tower under a wind.
+    Calls of "call_bench"
+    /// Takes the tower, the wind, the rounds and lent numbers.
+    OnReport(
+        file: *const u8,
+        bytes: usize,
+        direction: u32,
+        ice: u32,
+        factor: u32,
+        pressures: *const u16,
+        sections: usize,
+        rounds: u64,
+        out: *mut u64,
+        room: usize,
+    ): report_bench;
+    /// Takes the tower, the wind and the rounds.
+    OnWindy(
+        file: *const u8,
+        bytes: usize,
+        direction: u32,
+        ice: u32,
+        factor: u32,
+        pressures: *const u16,
+        sections: usize,
+        rounds: u64,
+    ): hang_bench, erect_bench;
+}
+
 /// A tower file that is erected on a fresh service, and the wind that is then set.
 pub struct Windy<'a> {
     /// The file.
@@ -185,31 +240,6 @@ pub struct Windy<'a> {
     /// The wind.
     pub wind: &'a Wind,
 }
-
-/// Reports into `out` so many times. How many are accepted.
-pub fn report(windy: &Windy, rounds: u64, out: &mut [u64]) -> u64 {
-    let Windy { file, wind } = windy;
-    let pressures = &wind.pressures;
-    // SAFETY: the pointers and the lengths are those of three slices that do not
-    // overlap; the first two are only read.
-    unsafe {
-        report_bench(
-            file.as_ptr(),
-            file.len(),
-            wind.direction,
-            wind.ice_class,
-            wind.structure_factor,
-            pressures.as_ptr(),
-            pressures.len(),
-            rounds,
-            out.as_mut_ptr(),
-            out.len(),
-        )
-    }
-}
-
-/// A function that takes the tower, the wind and the rounds.
-type OnWindy = unsafe extern "C" fn(*const u8, usize, u32, u32, u32, *const u16, usize, u64) -> u64;
 
 fn on_windy(call: OnWindy, windy: &Windy, rounds: u64) -> u64 {
     let Windy { file, wind } = windy;
@@ -230,13 +260,37 @@ fn on_windy(call: OnWindy, windy: &Windy, rounds: u64) -> u64 {
     }
 }
 
-/// Hangs a dish and takes it down so many times. How many of the calls are
-/// accepted, two a round at the most.
-pub fn hang(windy: &Windy, rounds: u64) -> u64 {
-    on_windy(hang_bench, windy, rounds)
-}
+impl Calls {
+    /// Reports into `out` so many times. How many are accepted.
+    pub fn report(&self, windy: &Windy, rounds: u64, out: &mut [u64]) -> u64 {
+        let Windy { file, wind } = windy;
+        let pressures = &wind.pressures;
+        // SAFETY: the pointers and the lengths are those of three slices that do not
+        // overlap; the first two are only read.
+        unsafe {
+            (self.report_bench)(
+                file.as_ptr(),
+                file.len(),
+                wind.direction,
+                wind.ice_class,
+                wind.structure_factor,
+                pressures.as_ptr(),
+                pressures.len(),
+                rounds,
+                out.as_mut_ptr(),
+                out.len(),
+            )
+        }
+    }
 
-/// Erects the file so many times more. How many of the calls are accepted.
-pub fn erect(windy: &Windy, rounds: u64) -> u64 {
-    on_windy(erect_bench, windy, rounds)
+    /// Hangs a dish and takes it down so many times. How many of the calls are
+    /// accepted, two a round at the most.
+    pub fn hang(&self, windy: &Windy, rounds: u64) -> u64 {
+        on_windy(self.hang_bench, windy, rounds)
+    }
+
+    /// Erects the file so many times more. How many of the calls are accepted.
+    pub fn erect(&self, windy: &Windy, rounds: u64) -> u64 {
+        on_windy(self.erect_bench, windy, rounds)
+    }
 }

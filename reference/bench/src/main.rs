@@ -18,10 +18,12 @@ mod library;
 mod pipe;
 #[cfg(test)]
 mod pipe_tests;
+mod proved;
+#[cfg(test)]
+mod proved_tests;
 mod rates;
 mod requests;
 mod section;
-mod speed;
 #[cfg(test)]
 mod tests;
 mod timing;
@@ -32,13 +34,14 @@ mod words;
 
 use calls::{mast, timed_calls, timed_towers, with_room, TimedTower};
 use fields::{timed_fields, Fetch, TimedFields};
-use file::{timed_files, TimedFile, Work};
-use library::{Files, BESIDE, FILES};
+use file::timed_files;
+use library::{Calls, Files, Forces, Library};
+use proved::{beside_rust, differences, times, InRust, Proved};
 use rates::Rate;
-use section::{sections, Timed};
+use section::{kind, sections, Timed};
 use std::process::ExitCode;
-use timing::{head, line, mean, times, worst, Pair, PairTable, Times};
-use words::{parse, Command, Run, USAGE};
+use timing::{head, line, Pair, PairTable, Times};
+use words::{parse, Command, Parts, Run, USAGE};
 
 /// Sections of each kind.
 const SECTIONS: usize = 32;
@@ -46,12 +49,20 @@ const SECTIONS: usize = 32;
 /// Repetitions for each section, file and tower.
 const REPETITIONS: u32 = 15;
 
+/// What can be timed beside another checkout's library.
+const LINKED: Parts = Parts {
+    force: Forces::BESIDE.is_some(),
+    file: Files::BESIDE.is_some(),
+    calls: Calls::BESIDE.is_some(),
+    pipe: false,
+};
+
 fn main() -> ExitCode {
     let words: Vec<String> = std::env::args_os()
         .skip(1)
         .map(|word| word.to_string_lossy().into_owned())
         .collect();
-    match parse(&words, BESIDE.is_some()) {
+    match parse(&words, LINKED) {
         Ok(Command::Help) => {
             print!("{USAGE}");
             ExitCode::SUCCESS
@@ -72,13 +83,12 @@ fn main() -> ExitCode {
 
 /// Times what is asked for; whether nothing differs.
 fn run(asked: &Run) -> bool {
-    let (parts, each) = (asked.parts, asked.each);
-    let beside = BESIDE.filter(|_| asked.beside);
+    let parts = asked.parts;
     let differ = [
-        parts.force && !run_force(each),
-        parts.file && !run_file(each, beside),
-        parts.calls && !run_calls(each),
-        parts.pipe && !run_pipe(&asked.towerd, each),
+        parts.force && !run_force(asked),
+        parts.file && !run_file(asked),
+        parts.calls && !run_calls(asked),
+        parts.pipe && !run_pipe(asked),
     ];
     !differ.contains(&true)
 }
@@ -91,55 +101,97 @@ fn none_differs(differences: &[String]) -> bool {
     differences.is_empty()
 }
 
+/// Sections of a kind, and its name.
+type Kind = (&'static str, Vec<Timed>);
+
 /// Compares the section forces and, if they are the same, times them.
-fn run_force(each: bool) -> bool {
-    let kinds = [("supercritical", true), ("no supercritical", false)]
-        .map(|(name, supercritical)| (name, sections(supercritical, SECTIONS)));
-    let all = kinds.iter().flat_map(|(_, sections)| sections);
-    let differences: Vec<String> = all.filter_map(Timed::difference).collect();
-    let same = none_differs(&differences);
+fn run_force(asked: &Run) -> bool {
+    let of_kind = |supercritical| (kind(supercritical), sections(supercritical, SECTIONS));
+    let kinds = [true, false].map(of_kind);
+    let differ = |(_, sections): &Kind| differences(sections, asked.beside);
+    let same = none_differs(&kinds.iter().flat_map(differ).collect::<Vec<_>>());
     if same {
-        println!("{}", head("ns per section force"));
-        for (name, sections) in &kinds {
-            show(name, sections, each);
+        show_forces(&kinds, asked.each);
+        if let Some(other) = Forces::beside(asked.beside) {
+            show_forces_beside(&kinds, &other, asked.each);
         }
     }
     same
 }
 
-/// Times these sections and prints their lines.
-fn show(name: &str, sections: &[Timed], each: bool) {
-    let all: Vec<Times> = sections
-        .iter()
-        .map(|section| times(section, REPETITIONS))
-        .collect();
+/// Prints the table of the section forces.
+fn show_forces(kinds: &[Kind], each: bool) {
+    println!("{}", head(Timed::WHAT));
+    for (name, sections) in kinds {
+        let all = show_each(sections, each, |section| times(section, REPETITIONS), line);
+        println!("{}", line(&format!("{name}, mean"), Times::mean(&all)));
+        println!("{}", line(&format!("{name}, worst"), Times::worst(&all)));
+    }
+}
+
+/// Prints that of the section forces beside another library's.
+fn show_forces_beside(kinds: &[Kind], other: &Forces, each: bool) {
+    let table = PairTable::beside(Timed::WHAT);
+    let by_turns = |section: &_| proved::beside(section, other, REPETITIONS);
+    let line = |name: &str, pair| table.line(name, pair);
+    println!("{}", table.head());
+    for (name, sections) in kinds {
+        let all = show_each(sections, each, by_turns, line);
+        println!("{}", line(&format!("{name}, mean"), Pair::mean(&all)));
+    }
+}
+
+/// Times these sections and prints a line for each, if asked for.
+fn show_each<T: Copy>(
+    sections: &[Timed],
+    each: bool,
+    times: impl Fn(&Timed) -> T,
+    line: impl Fn(&str, T) -> String,
+) -> Vec<T> {
+    let all: Vec<T> = sections.iter().map(times).collect();
     if each {
-        for (place, times) in all.iter().enumerate() {
-            println!("{}", line(&format!("{name} {place}"), *times));
+        for (section, times) in sections.iter().zip(&all) {
+            println!("{}", line(&section.name(), *times));
         }
     }
-    println!("{}", line(&format!("{name}, mean"), mean(&all)));
-    println!("{}", line(&format!("{name}, worst"), worst(&all)));
+    all
+}
+
+/// Times these beside the Rust version and prints their table.
+fn show_beside_rust<P: InRust>(works: &[P]) {
+    let by_turns = |work: &_| beside_rust(work, REPETITIONS);
+    show_pairs(&PairTable::rust(P::WHAT), works, by_turns);
+}
+
+/// Times these beside the other library, if asked for, and prints their table.
+fn show_beside<P: Proved>(works: &[P], asked: &Run) {
+    if let Some(other) = P::Library::beside(asked.beside) {
+        let by_turns = |work: &_| proved::beside(work, &other, REPETITIONS);
+        show_pairs(&PairTable::beside(P::WHAT), works, by_turns);
+    }
+}
+
+fn show_pairs<P: Proved>(table: &PairTable, works: &[P], by_turns: impl Fn(&P) -> Pair) {
+    println!("{}", table.head());
+    for work in works {
+        println!("{}", table.line(&work.name(), by_turns(work)));
+    }
 }
 
 /// Compares the bytes and the fields of all files and, if they are the same, times
 /// those of the largest or of each.
-fn run_file(each: bool, beside: Option<Files>) -> bool {
+fn run_file(asked: &Run) -> bool {
     let (files, fields) = (timed_files(), timed_fields());
-    let libraries = [Some(FILES), beside].into_iter().flatten();
-    let mut differences = Vec::new();
-    for library in libraries {
-        let both = |file: &TimedFile| Work::ALL.map(|work| file.difference(&library, work));
-        differences.extend(files.iter().flat_map(both).flatten());
-    }
+    let mut differ = differences(&files, asked.beside);
     let both = |fields: &TimedFields| Fetch::ALL.map(|fetch| fields.difference(fetch));
-    differences.extend(fields.iter().flat_map(both).flatten());
-    let same = none_differs(&differences);
+    differ.extend(fields.iter().flat_map(both).flatten());
+    let same = none_differs(&differ);
     if same {
-        let shown = if each { files.len() } else { 1 };
-        show_files(&files[..shown], beside);
+        let shown = first(&files, 2, asked);
+        show_beside_rust(shown);
+        show_beside(shown, asked);
         println!("{}", fields::TABLE.head());
-        for timed in &fields[..shown] {
+        for timed in first(&fields, 1, asked) {
             let name = format!("{}, {} fields", timed.name, timed.count());
             let times = timed.times(REPETITIONS);
             println!("{}", fields::TABLE.line(&name, times));
@@ -148,53 +200,40 @@ fn run_file(each: bool, beside: Option<Files>) -> bool {
     same
 }
 
-/// Times reading and writing these files, and beside another library.
-fn show_files(files: &[TimedFile], beside: Option<Files>) {
-    show_speeds(&speed::TABLE, files, |file, work| {
-        speed::beside_rust(file, work, REPETITIONS)
-    });
-    if let Some(other) = beside {
-        let speeds = |file: &_, work| speed::beside(&other, file, work, REPETITIONS);
-        show_speeds(&speed::TABLE_BESIDE, files, speeds);
-    }
-}
-
-/// Prints a table of these files.
-fn show_speeds(table: &PairTable, files: &[TimedFile], speeds: impl Fn(&TimedFile, Work) -> Pair) {
-    println!("{}", table.head());
-    for file in files {
-        for work in Work::ALL {
-            let name = format!("{}, {} bytes, {}", file.name, file.bytes(), work.name());
-            println!("{}", table.line(&name, speeds(file, work)));
-        }
+/// So many of these or, if asked for, each.
+fn first<'a, T>(all: &'a [T], count: usize, asked: &Run) -> &'a [T] {
+    if asked.each {
+        all
+    } else {
+        &all[..count]
     }
 }
 
 /// Compares the reports and, if they are the same, times the calls on the largest
 /// towers or on each.
-fn run_calls(each: bool) -> bool {
+fn run_calls(asked: &Run) -> bool {
     let (towers, calls) = (timed_towers(), timed_calls());
-    let mut differences: Vec<String> = towers.iter().filter_map(TimedTower::difference).collect();
-    differences.extend(calls.iter().filter_map(|(call, on)| call.difference(on)));
-    let same = none_differs(&differences);
+    let mut differ = differences(&towers, asked.beside);
+    differ.extend(towers.iter().filter_map(TimedTower::plain_difference));
+    differ.extend(differences(&calls, asked.beside));
+    let same = none_differs(&differ);
     if same {
-        println!("{}", head("ns per report"));
-        for timed in towers.iter().take(if each { towers.len() } else { 2 }) {
+        let (towers, calls) = (first(&towers, 2, asked), first(&calls, 2, asked));
+        println!("{}", head(TimedTower::WHAT));
+        for timed in towers {
             println!("{}", line(timed.name, times(timed, REPETITIONS)));
         }
-        println!("{}", calls::TABLE.head());
-        for (call, on) in calls.iter().take(if each { calls.len() } else { 2 }) {
-            let times = call.times(on, REPETITIONS);
-            println!("{}", calls::TABLE.line(&call.name(on), times));
-        }
+        show_beside(towers, asked);
+        show_beside_rust(calls);
+        show_beside(calls, asked);
     }
     same
 }
 
 /// Times requests through a pipe and compares all answers.
-fn run_pipe(towerd: &str, each: bool) -> bool {
+fn run_pipe(asked: &Run) -> bool {
     println!("{}", rates::head());
-    let done = show_rates(towerd, each);
+    let done = show_rates(&asked.towerd, asked.each);
     if let Err(wrong) = &done {
         eprintln!("bench: {wrong}");
     }

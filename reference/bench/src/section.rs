@@ -1,7 +1,7 @@
 //! The timed sections, and the three versions of their forces.
 
-use crate::library;
-use crate::timing::Versions;
+use crate::library::{Forces, Library};
+use crate::proved::{Proved, Versions};
 use reference::areas::areas;
 use reference::cases::{random_cases, Case};
 use reference::plain::whole_force;
@@ -12,6 +12,7 @@ pub const PRESSURES: u64 = 16;
 
 /// A section to be timed.
 pub struct Timed {
+    name: String,
     case: Case,
     words: Vec<u64>,
     /// The items' sum in m².
@@ -21,10 +22,11 @@ pub struct Timed {
 impl Timed {
     /// The words are the numbers of the case up to its groups, then the items'
     /// sum.
-    fn new(case: Case) -> Timed {
+    fn new(name: String, case: Case) -> Timed {
         let mut words = case.section_numbers();
         words.push(case.item_sum());
         Timed {
+            name,
             items: case.item_sum() as f64 / 1e12,
             words,
             case,
@@ -35,24 +37,35 @@ impl Timed {
     fn pressure(&self, round: u64) -> u16 {
         self.case.pressure() - (round % PRESSURES) as u16
     }
-
-    /// Says where the library and the exact version differ, if they do.
-    pub fn difference(&self) -> Option<String> {
-        let (library, exact) = (self.library(PRESSURES), self.exact(PRESSURES));
-        let line = self.case.line();
-        let differ = || format!("library {library}, exact {exact} for {line}");
-        (library != exact).then(differ)
-    }
 }
 
 /// Sums of so many forces.
-impl Versions for Timed {
-    const FAST_ROUNDS: u64 = 256 * PRESSURES;
-    const EXACT_ROUNDS: u64 = PRESSURES;
+impl Proved for Timed {
+    type Library = Forces;
+    const WHAT: &'static str = "ns per section force";
 
-    fn library(&self, rounds: u64) -> u64 {
-        library::sum(black_box(&self.words), rounds)
+    fn name(&self) -> String {
+        self.name.clone()
     }
+
+    fn rounds(&self) -> u64 {
+        256 * PRESSURES
+    }
+
+    fn library(&self, library: &Forces, rounds: u64) -> u64 {
+        library.sum(black_box(&self.words), rounds)
+    }
+
+    fn difference(&self, library: &Forces) -> Option<String> {
+        let (sum, exact) = (self.library(library, PRESSURES), self.exact(PRESSURES));
+        let (name, whose, line) = (&self.name, library.whose(), self.case.line());
+        let differ = || format!("{name}: {whose} has {sum}, exact {exact} for {line}");
+        (sum != exact).then(differ)
+    }
+}
+
+impl Versions for Timed {
+    const EXACT_ROUNDS: u64 = PRESSURES;
 
     fn plain(&self, rounds: u64) -> u64 {
         let case = &self.case;
@@ -74,6 +87,15 @@ impl Versions for Timed {
     }
 }
 
+/// The name of the sections with supercritical members, or of those without.
+pub fn kind(supercritical: bool) -> &'static str {
+    if supercritical {
+        "supercritical"
+    } else {
+        "no supercritical"
+    }
+}
+
 /// So many of the random cases with supercritical members at every pressure, or
 /// without at any. At most one item hangs on each, as the library is given the
 /// items' sum and the exact version adds it up.
@@ -87,10 +109,10 @@ pub fn sections(supercritical: bool, count: usize) -> Vec<Timed> {
         has_supercritical(case, at) == supercritical
     };
     let cases = random_cases().into_iter().filter(wanted);
-    let lighter = cases.map(|mut case| {
+    let lighter = cases.enumerate().map(|(place, mut case)| {
         case.tower.items.retain(|item| item.section == 0);
         case.tower.items.truncate(1);
-        Timed::new(case)
+        Timed::new(format!("{} {place}", kind(supercritical)), case)
     });
     lighter.take(count).collect()
 }

@@ -1,8 +1,9 @@
 //! Tests of the sections, the sums and the table, with the library linked.
 
-use crate::library;
+use crate::library::{Forces, Library};
+use crate::proved::{Proved, Versions};
 use crate::section::{sections, PRESSURES};
-use crate::timing::{head, line, mean, worst, Times, Versions};
+use crate::timing::{head, line, Times};
 
 const TIMES: [Times; 2] = [
     Times {
@@ -19,8 +20,12 @@ const TIMES: [Times; 2] = [
 
 #[test]
 fn there_are_some_tens_of_each_kind() {
-    for supercritical in [false, true] {
-        assert_eq!(sections(supercritical, 32).len(), 32);
+    for (supercritical, last) in [(false, "no supercritical 31"), (true, "supercritical 31")] {
+        let names: Vec<String> = sections(supercritical, 32)
+            .iter()
+            .map(Proved::name)
+            .collect();
+        assert_eq!((names.len(), &names[31][..]), (32, last));
     }
 }
 
@@ -28,9 +33,11 @@ fn there_are_some_tens_of_each_kind() {
 fn the_library_and_the_exact_version_have_the_same_sums() {
     for supercritical in [false, true] {
         for section in sections(supercritical, usize::MAX) {
-            assert_eq!(section.difference(), None);
             let turns = 3 * section.exact(PRESSURES) + section.exact(5);
-            assert_eq!(section.library(3 * PRESSURES + 5), turns);
+            for library in Forces::all(true) {
+                assert_eq!(section.difference(&library), None);
+                assert_eq!(section.library(&library, 3 * PRESSURES + 5), turns);
+            }
         }
     }
 }
@@ -50,17 +57,19 @@ const SAMPLE: [u64; 12] = [4, 0, 0, 1_000, 1_000, 2_000, 6_000, 1, 0, 100, 24_00
 
 #[test]
 fn the_library_takes_the_words_of_a_section_alone() {
-    assert_eq!(library::sum(&SAMPLE, 0), 0);
-    assert_eq!(library::sum(&SAMPLE, 1), 7_033);
-    assert_eq!(library::sum(&SAMPLE, 2), 7_033 + 7_026);
-    for end in 0..SAMPLE.len() {
-        assert_eq!(library::sum(&SAMPLE[..end], 1), u64::MAX, "{end}");
-    }
-    let broken = [(0, 5), (1, 24), (2, 6), (3, 499), (4, 5_001), (5, 99)];
-    for (place, number) in broken.into_iter().chain([(6, 5_999), (7, 0), (8, 2)]) {
-        let mut words = SAMPLE;
-        words[place] = number;
-        assert_eq!(library::sum(&words, 1), u64::MAX, "{place}");
+    for library in Forces::all(true) {
+        assert_eq!(library.sum(&SAMPLE, 0), 0);
+        assert_eq!(library.sum(&SAMPLE, 1), 7_033);
+        assert_eq!(library.sum(&SAMPLE, 2), 7_033 + 7_026);
+        for end in 0..SAMPLE.len() {
+            assert_eq!(library.sum(&SAMPLE[..end], 1), u64::MAX, "{end}");
+        }
+        let broken = [(0, 5), (1, 24), (2, 6), (3, 499), (4, 5_001), (5, 99)];
+        for (place, number) in broken.into_iter().chain([(6, 5_999), (7, 0), (8, 2)]) {
+            let mut words = SAMPLE;
+            words[place] = number;
+            assert_eq!(library.sum(&words, 1), u64::MAX, "{place}");
+        }
     }
 }
 
@@ -71,8 +80,8 @@ fn the_table_has_means_and_the_slowest_section() {
         plain: 20.0,
         exact: 8_500.0,
     };
-    assert_eq!(mean(&TIMES), middle);
-    assert_eq!(worst(&TIMES), TIMES[0]);
+    assert_eq!(Times::mean(&TIMES), middle);
+    assert_eq!(Times::worst(&TIMES), TIMES[0]);
     let shown = line("flats, mean", middle);
     assert_eq!(shown.len(), head("ns per section force").len());
     let words: Vec<&str> = shown.split_whitespace().collect();

@@ -14,41 +14,21 @@ pub struct Times {
     pub exact: f64,
 }
 
-/// Three versions of the same work, each of which is asked for so many rounds of
-/// it and answers something that depends on them.
-pub trait Versions {
-    /// Rounds of the two fast versions in each repetition.
-    const FAST_ROUNDS: u64;
-    /// Rounds of the exact version in each repetition.
-    const EXACT_ROUNDS: u64;
-
-    /// The proved library.
-    fn library(&self, rounds: u64) -> u64;
-    /// Plain floating point.
-    fn plain(&self, rounds: u64) -> u64;
-    /// The exact Rust version.
-    fn exact(&self, rounds: u64) -> u64;
-}
-
-/// The best of several repetitions, in which the three take turns.
-pub fn times<V: Versions>(versions: &V, repetitions: u32) -> Times {
-    let never = f64::INFINITY;
-    let mut best = Times {
-        library: never,
-        plain: never,
-        exact: never,
-    };
-    for _ in 0..repetitions {
-        let library = time(V::FAST_ROUNDS, |rounds| versions.library(rounds));
-        let plain = time(V::FAST_ROUNDS, |rounds| versions.plain(rounds));
-        let exact = time(V::EXACT_ROUNDS, |rounds| versions.exact(rounds));
-        best = Times {
-            library: best.library.min(library),
-            plain: best.plain.min(plain),
-            exact: best.exact.min(exact),
-        };
+impl Times {
+    /// The mean of each version.
+    pub fn mean(all: &[Times]) -> Times {
+        Times {
+            library: mean_of(all, |times| times.library),
+            plain: mean_of(all, |times| times.plain),
+            exact: mean_of(all, |times| times.exact),
+        }
     }
-    best
+
+    /// Those of the section that takes the library longest.
+    pub fn worst(all: &[Times]) -> Times {
+        let slower = |left: &&Times, right: &&Times| left.library.total_cmp(&right.library);
+        *all.iter().max_by(slower).expect("a section")
+    }
 }
 
 /// Nanoseconds per round of two versions, or what comes of them.
@@ -66,6 +46,14 @@ impl Pair {
         Pair {
             first: of(self.first),
             second: of(self.second),
+        }
+    }
+
+    /// The mean of each version.
+    pub fn mean(all: &[Pair]) -> Pair {
+        Pair {
+            first: mean_of(all, |pair| pair.first),
+            second: mean_of(all, |pair| pair.second),
         }
     }
 }
@@ -97,20 +85,9 @@ pub fn time(rounds: u64, mut sum: impl FnMut(u64) -> u64) -> f64 {
     start.elapsed().as_nanos() as f64 / rounds as f64
 }
 
-/// The mean of each version.
-pub fn mean(all: &[Times]) -> Times {
-    let of = |part: fn(&Times) -> f64| all.iter().map(part).sum::<f64>() / all.len() as f64;
-    Times {
-        library: of(|times| times.library),
-        plain: of(|times| times.plain),
-        exact: of(|times| times.exact),
-    }
-}
-
-/// Those of the section that takes the library longest.
-pub fn worst(all: &[Times]) -> Times {
-    let slower = |left: &&Times, right: &&Times| left.library.total_cmp(&right.library);
-    *all.iter().max_by(slower).expect("a section")
+/// The mean of a part of them.
+fn mean_of<T>(all: &[T], part: fn(&T) -> f64) -> f64 {
+    all.iter().map(part).sum::<f64>() / all.len() as f64
 }
 
 /// Width of a line's name.
@@ -150,10 +127,19 @@ pub struct PairTable {
 
 impl PairTable {
     /// The library beside the Rust version.
-    pub const fn of(what: &'static str) -> PairTable {
+    pub const fn rust(what: &'static str) -> PairTable {
+        PairTable::of(what, "Rust")
+    }
+
+    /// The library beside that of another checkout.
+    pub const fn beside(what: &'static str) -> PairTable {
+        PairTable::of(what, "beside")
+    }
+
+    const fn of(what: &'static str, other: &'static str) -> PairTable {
         PairTable {
             what,
-            versions: ["library", "Rust"],
+            versions: ["library", other],
             digits: 1,
         }
     }
@@ -162,14 +148,14 @@ impl PairTable {
     pub fn head(&self) -> String {
         let [first, second] = self.versions;
         let ratio = self.versions.join("/");
-        format!("{:<NAME$} {first:>10} {second:>10} {ratio:>13}", self.what)
+        format!("{:<NAME$} {first:>10} {second:>10} {ratio:>14}", self.what)
     }
 
     /// Another line.
     pub fn line(&self, name: &str, pair: Pair) -> String {
         let (Pair { first, second }, digits) = (pair, self.digits);
         format!(
-            "{name:<NAME$} {first:>10.digits$} {second:>10.digits$} {:>13.2}",
+            "{name:<NAME$} {first:>10.digits$} {second:>10.digits$} {:>14.2}",
             first / second
         )
     }

@@ -2,14 +2,14 @@
 
 use crate::words::{parse, Command, Parts, Run, USAGE};
 
-/// The words where a library beside is linked or not.
-fn linked_words(line: &str, linked: bool) -> Result<Command, String> {
+/// The words where the libraries beside of these parts are linked.
+fn linked_words(line: &str, linked: Parts) -> Result<Command, String> {
     let words: Vec<String> = line.split_whitespace().map(String::from).collect();
     parse(&words, linked)
 }
 
 fn words(line: &str) -> Result<Command, String> {
-    linked_words(line, false)
+    linked_words(line, NONE)
 }
 
 fn run(parts: Parts, each: bool, towerd: &str) -> Result<Command, String> {
@@ -59,28 +59,59 @@ fn the_words_choose() {
     assert_eq!(words("--each --towerd a/b"), run(Parts::ALL, true, "a/b"));
 }
 
+fn run_beside(parts: Parts, each: bool, towerd: &str) -> Result<Command, String> {
+    Ok(Command::Run(Run {
+        parts,
+        each,
+        beside: true,
+        towerd: towerd.to_string(),
+    }))
+}
+
 #[test]
-fn the_library_beside_goes_with_file_and_must_be_linked() {
-    let beside = |parts, each, towerd: &str| {
-        Ok(Command::Run(Run {
-            parts,
-            each,
-            beside: true,
-            towerd: towerd.to_string(),
-        }))
-    };
+fn the_libraries_beside_go_with_what_calls_them() {
     let file = Parts { file: true, ..NONE };
-    let linked = |line| linked_words(line, true);
-    assert_eq!(linked("file --beside"), beside(file, false, ""));
-    assert_eq!(linked("--beside --each file"), beside(file, true, ""));
-    let all = beside(Parts::ALL, false, "p");
+    let (force, calls) = (
+        Parts {
+            force: true,
+            ..NONE
+        },
+        Parts {
+            calls: true,
+            ..NONE
+        },
+    );
+    let linked = |line| linked_words(line, Parts::ALL);
+    assert_eq!(linked("force --beside"), run_beside(force, false, ""));
+    assert_eq!(linked("file --beside"), run_beside(file, false, ""));
+    assert_eq!(linked("--beside --each calls"), run_beside(calls, true, ""));
+    let all = run_beside(Parts::ALL, false, "p");
     assert_eq!(linked("--beside --towerd p"), all);
+    let piped = Parts {
+        pipe: true,
+        ..calls
+    };
+    let both = run_beside(piped, false, "p");
+    assert_eq!(linked("pipe calls --beside --towerd p"), both);
     assert_eq!(linked("file"), run(file, false, ""));
-    let alone = Err("--beside goes with file".into());
-    assert_eq!(linked("force --beside"), alone);
-    assert_eq!(words("calls --beside"), alone);
-    let unlinked = "no library beside is linked: reference/benchmark --beside FOLDER";
-    assert_eq!(words("file --beside"), Err(unlinked.into()));
+    let alone = Err("--beside goes with force, file or calls".into());
+    assert_eq!(linked("pipe --beside --towerd p"), alone);
+}
+
+#[test]
+fn the_libraries_beside_must_be_linked() {
+    let file = Parts { file: true, ..NONE };
+    let linked = |line| linked_words(line, file);
+    assert_eq!(linked("file --beside"), run_beside(file, false, ""));
+    let missing = |part: &str| {
+        let run = format!("reference/benchmark {part} --beside FOLDER");
+        Err(format!("no library beside is linked: {run}"))
+    };
+    assert_eq!(linked("force --beside"), missing("force"));
+    assert_eq!(linked("file calls --beside"), missing("calls"));
+    assert_eq!(linked("--beside --towerd p"), missing("force"));
+    assert_eq!(words("file --beside"), missing("file"));
+    assert_eq!(linked("calls"), words("calls"));
 }
 
 #[test]

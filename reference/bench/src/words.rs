@@ -33,9 +33,9 @@ answer differs.
 
   --each            also print a line for each section, for smaller files and
                     towers, and for each million
-  --beside          with file: also compare and time the library that
-                    reference/benchmark --beside FOLDER links, by turns with
-                    this repository's
+  --beside          with force, file or calls: also compare the libraries that
+                    reference/benchmark --beside FOLDER links, and time each by
+                    turns with this repository's
   --towerd PROGRAM  the service program that pipe starts
   --help            print this
 ";
@@ -61,6 +61,17 @@ impl Parts {
         calls: true,
         pipe: true,
     };
+
+    /// The words for those that call a library.
+    fn of_libraries(self) -> Vec<&'static str> {
+        let words = [
+            ("force", self.force),
+            ("file", self.file),
+            ("calls", self.calls),
+        ];
+        let named = words.into_iter().filter(|(_, named)| *named);
+        named.map(|(word, _)| word).collect()
+    }
 }
 
 /// What is checked and timed, and how.
@@ -70,7 +81,7 @@ pub struct Run {
     pub parts: Parts,
     /// With a line for each.
     pub each: bool,
-    /// With the library beside.
+    /// With the libraries beside.
     pub beside: bool,
     /// The service program; empty where none is named and none is needed.
     pub towerd: String,
@@ -85,8 +96,9 @@ pub enum Command {
     Run(Run),
 }
 
-/// Reads the words, or says what is wrong with them; a library beside may be linked.
-pub fn parse(words: &[String], linked: bool) -> Result<Command, String> {
+/// Reads the words, or says what is wrong with them. The libraries beside of these
+/// parts are linked.
+pub fn parse(words: &[String], linked: Parts) -> Result<Command, String> {
     let mut run = Run::default();
     let mut words = words.iter();
     while let Some(word) = words.next() {
@@ -108,11 +120,23 @@ pub fn parse(words: &[String], linked: bool) -> Result<Command, String> {
     if run.parts.pipe && run.towerd.is_empty() {
         return Err("pipe needs --towerd PROGRAM".into());
     }
-    if run.beside && !run.parts.file {
-        return Err("--beside goes with file".into());
-    }
-    if run.beside && !linked {
-        return Err("no library beside is linked: reference/benchmark --beside FOLDER".into());
+    if run.beside {
+        all_beside(run.parts, linked)?;
     }
     Ok(Command::Run(run))
+}
+
+/// Says what is wrong where none of these calls a library, or where the library
+/// beside of one is not linked.
+fn all_beside(parts: Parts, linked: Parts) -> Result<(), String> {
+    let (words, linked) = (parts.of_libraries(), linked.of_libraries());
+    if words.is_empty() {
+        return Err("--beside goes with force, file or calls".into());
+    }
+    match words.iter().find(|word| !linked.contains(word)) {
+        Some(word) => Err(format!(
+            "no library beside is linked: reference/benchmark {word} --beside FOLDER"
+        )),
+        None => Ok(()),
+    }
 }

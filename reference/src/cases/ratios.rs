@@ -1,9 +1,10 @@
 //! Full faces, the ends of K2's ranges, and 1 mm² beside them, in every
 //! direction, for each flow class alone and for all three together.
 
+use super::ways::drawn;
 use super::Case;
 use crate::draw::{self, flow_limit, Random, EXACT_SOLIDITY};
-use crate::tower::{Group, Legs, Member, Section, Tower, DIRECTION};
+use crate::tower::{Group, Legs, Member, Section, Tower, DIRECTION, PRESSURE};
 use crate::units::Length;
 
 /// The flow classes of a face.
@@ -35,7 +36,7 @@ pub fn cases() -> Vec<Case> {
         for legs in [Legs::Three, Legs::Four] {
             for (place, members) in MEMBERS.into_iter().enumerate() {
                 for direction in directions(legs, place) {
-                    cases.push(case(&mut random, ratio, legs, members, direction));
+                    cases.push(drawn(|| case(&mut random, ratio, legs, members, direction)));
                 }
             }
         }
@@ -65,10 +66,7 @@ pub fn case(
         Members::Supercritical | Members::Mixed => 0,
     };
     let mut section = draw::exact_section(random, ice_class, tenths, beside);
-    let (least, most) = match members {
-        Members::Mixed => mix(random, &mut section),
-        alone => recast(&mut section, alone, ice_class),
-    };
+    let (least, most) = cast(random, &mut section, members, ice_class);
     let held = random.within(0, 2);
     let tower = Tower {
         legs,
@@ -76,8 +74,23 @@ pub fn case(
         items: draw::items(random, held, 2),
     };
     let mut wind = draw::wind(random, &tower, direction, ice_class);
-    wind.pressures[0] = random.within(least, most.min(5_000)) as u16;
+    wind.pressures[0] = random.within(least, most) as u16;
     Case::new(tower, wind)
+}
+
+/// Gives the section members of these classes and the same area. Answers the
+/// least and the greatest pressure at which they are of these classes.
+pub fn cast(
+    random: &mut Random,
+    section: &mut Section,
+    members: Members,
+    ice_class: u32,
+) -> (u32, u32) {
+    let (least, most) = match members {
+        Members::Mixed => mix(random, section),
+        alone => recast(section, alone, ice_class),
+    };
+    (least, most.min((*PRESSURE.end()).into()))
 }
 
 /// Makes all members flat or round. Answers the pressures for their class.

@@ -1,14 +1,14 @@
-//! Exact forces that are a whole number of newtons, and forces beside one, by
-//! as little as the items allow: there the smallest error changes the answer.
+//! Exact forces that are a whole number of newtons, and forces beside one.
 
+use super::beside::{beside_whole, MOST_ADDED};
 use super::extremes::{largest_with, turned};
 use super::ratios::{self, Members};
 use super::samples::{sample_cases, under};
 use super::Case;
 use crate::draw::{self, Random, EXACT_SOLIDITY};
-use crate::sample::{flat, item, round, sample, section, tower};
-use crate::tower::{Item, Legs, Tower, MOST_ITEMS};
-use crate::units::{Force, Length};
+use crate::sample::{flat, round, sample, section, tower};
+use crate::tower::{Legs, Tower, MOST_ITEMS};
+use crate::units::Length;
 
 /// Whole forces, then forces beside a whole number of newtons.
 pub fn cases() -> Vec<Case> {
@@ -61,63 +61,15 @@ fn rooted() -> Vec<Case> {
 }
 
 /// The largest section, full or 1 mm² less, with s = 1 and with as many of the
-/// largest items as leave room for four more. The last two are iced.
+/// largest items as leave room for those that are added. The last two are iced.
 fn heaviest() -> Vec<Case> {
     let shapes = [(Legs::Three, 0), (Legs::Four, 0), (Legs::Four, 5)];
     let mut cases = shapes
-        .map(|(legs, ice_class)| largest_with(legs, round, ice_class, MOST_ITEMS - 4))
+        .map(|(legs, ice_class)| largest_with(legs, round, ice_class, MOST_ITEMS - MOST_ADDED))
         .concat();
     cases.retain(|case| {
         let nearly_full = case.section().groups[0].length > Length(1);
         nearly_full && case.wind.direction == turned(case.tower.legs)
     });
     cases
-}
-
-/// The case with four items more, so that the force just does not pass a whole
-/// number of newtons, with the least that can be taken off, and with the least
-/// more.
-fn beside_whole(case: &Case) -> Vec<Case> {
-    let Force(least) = with_more(case, 0).exact_force().least_whole();
-    let whole = Force(least + 1);
-    let fits = |sum| with_more(case, sum).exact_force().is_at_most(whole);
-    let (mut most, mut too_much) = (0, 3_000_000_000_000);
-    while too_much - most > 1 {
-        let middle = most + (too_much - most) / 2;
-        if fits(middle) {
-            most = middle;
-        } else {
-            too_much = middle;
-        }
-    }
-    [most - 1, most, most + 1]
-        .map(|sum| with_more(case, sum))
-        .to_vec()
-}
-
-/// The case with four items more. At 0 each of them is 1 mm wide; the items' sum
-/// is above that by `sum`, which is less than 3 · 10¹².
-fn with_more(case: &Case, sum: u64) -> Case {
-    let parts = [
-        (sum / 1_000_000_000, 1_000, 1_000, 1_000),
-        (sum / 1_000_000 % 1_000, 1, 1_000, 1_000),
-        (sum / 1_000 % 1_000, 1, 1_000, 1),
-        (sum % 1_000, 1, 1, 1),
-    ];
-    let mut case = case.clone();
-    for (wider, length, coefficient, position) in parts {
-        let (bare, iced) = match case.wind.ice_class {
-            0 => (coefficient, 3_000),
-            _ => (3_000, coefficient),
-        };
-        case.tower.items.push(Item {
-            width: Length(1 + wider as u32),
-            length: Length(length),
-            bare,
-            iced,
-            position,
-            ..item(100 + case.tower.items.len() as u16)
-        });
-    }
-    case
 }

@@ -162,7 +162,7 @@ fn the_service_accepts_every_case_and_reports_its_answer() {
 #[test]
 fn there_are_so_many_cases() {
     // README.md states this number
-    assert_eq!(read().len(), 2_999);
+    assert_eq!(read().len(), 3_207);
     let random = random_cases();
     assert_eq!(random.len(), 1_000);
     let lines: BTreeSet<String> = random.iter().map(Case::line).collect();

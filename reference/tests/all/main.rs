@@ -32,3 +32,4 @@ mod samples;
 mod second_parser;
 mod transcript;
 mod vectors;
+mod ways;

@@ -119,12 +119,12 @@ fn every_case_is_right() {
     }
 }
 
-/// All cases, then each refused line and a sample.
+/// All cases, then each refused line and a sample, and one line more at last.
 #[test]
 fn the_answers_go_on_after_a_refused_line() {
     let [stdin, stdout] = texts();
     assert!(stdin.len() <= 500_000, "{} bytes", stdin.len());
-    assert_eq!(stdin.lines().count(), stdout.lines().count());
+    assert_eq!(stdin.lines().count() + 1, stdout.lines().count());
     let lines: Vec<(&str, &str)> = stdin.lines().zip(stdout.lines()).collect();
     let (cases, rest) = lines.split_at(all().len());
     assert!(cases.iter().all(|(_, answer)| !answer.contains("error")));

@@ -1,3 +1,4 @@
+use native.Mathlib.Omega.{arith}
 use Rattle.areas.proofs.Fits.{under-facts}
 use borrow.Author.Needs.{needs}
 use Rattle.force_cases.proofs.answer_case.Statement.{statement}
@@ -6,20 +7,23 @@ use Rattle.force_cases.proofs.answer_case.Tie as tie
 thickness-requires : tie.Need-thickness-requires
 thickness-requires c κs = c .before .pre .0 .ice
 
-item-sum-requires : tie.Need-item-sum-requires
-item-sum-requires c κs =
+item-sums-requires : tie.Need-item-sums-requires
+item-sums-requires c κs =
     let p = c .before .before .pre in
     let f = rw (← c .thickness .ensures) at (p .0 .fits) in
     (under-facts _ _ f .ice, p .1, p .2)
 
+array-read-sum : tie.Need-array-read-sum
+array-read-sum c = search needs
+
 legs-of-requires : tie.Need-legs-of-requires
 legs-of-requires c κs = search needs
 
-section-load-requires : tie.Need-section-load-requires
-section-load-requires c κs =
+decided-load-requires : tie.Need-decided-load-requires
+decided-load-requires c κs =
     let s = c .before .before .before .before .before .pre .0 in
     let f = rw (← c .before .before .before .thickness .ensures) at (s .fits) in
-    (f, s .factor, s .pressure, c .before .before .item-sum .ensures .1)
+    (f, s .factor, s .pressure, c .before .before .item-sums .ensures .small 0 (omega arith))
 
 put-load-requires : tie.Need-put-load-requires
 put-load-requires c κs = search needs
@@ -35,9 +39,10 @@ answer-case-spec =
     tie.close
     (tie.spec
     thickness-requires
-    item-sum-requires
+    item-sums-requires
+    array-read-sum
     legs-of-requires
-    section-load-requires
+    decided-load-requires
     put-load-requires
     same-length
     returns)

@@ -1,0 +1,126 @@
+//! Tests of what all timed work of the libraries has, with them linked.
+
+use crate::calls::{timed_calls, timed_towers};
+use crate::file::timed_files;
+use crate::library::Library;
+use crate::proved::{beside, beside_rust, differences, times, InRust, Proved, Versions};
+use crate::section::sections;
+use crate::timing::{Pair, PairTable};
+
+/// Each difference of a library that answers 1 and does nothing.
+fn of_the_wrong<P: Proved>(works: &[P]) -> Vec<String> {
+    let difference = |work: &P| work.difference(&P::Library::WRONG);
+    works.iter().filter_map(difference).collect()
+}
+
+#[test]
+fn a_difference_is_told_with_the_name_of_the_library() {
+    let section = &of_the_wrong(&sections(true, 1))[0];
+    let exact = sections(true, 1)[0].exact(16);
+    let start = format!("supercritical 0: a wrong library has 1, exact {exact} for ");
+    assert!(section.starts_with(&start), "{section}");
+    let files = of_the_wrong(&timed_files());
+    let read = "largest, 2915 bytes, read: a wrong library answers 1, not 2915";
+    assert_eq!((files.len(), &files[0][..]), (8, read));
+    let reports = of_the_wrong(&timed_towers());
+    let other = "a wrong library reports other numbers from place 0 on";
+    let report = format!("largest, supercritical: {other}");
+    assert_eq!((reports.len(), &reports[0]), (4, &report));
+    let calls = of_the_wrong(&timed_calls());
+    let erect = "erect: 2915 bytes: of 3 calls a wrong library accepts 1, Rust 3";
+    assert_eq!((calls.len(), &calls[1][..]), (4, erect));
+}
+
+/// Whether the other libraries are asked for or not.
+fn differs_nowhere<P: Proved>(works: &[P]) {
+    for asked in [false, true] {
+        assert_eq!(differences(works, asked), [""; 0]);
+    }
+}
+
+#[test]
+fn the_libraries_do_not_differ() {
+    differs_nowhere(&sections(true, 32));
+    differs_nowhere(&sections(false, 32));
+    differs_nowhere(&timed_files());
+    differs_nowhere(&timed_towers());
+    differs_nowhere(&timed_calls());
+}
+
+#[test]
+fn the_libraries_have_names() {
+    fn names<L: Library>(asked: bool) -> Vec<&'static str> {
+        L::all(asked).map(|library| library.whose()).collect()
+    }
+    fn named<P: Proved>(_: &[P]) {
+        let linked = P::Library::BESIDE.map(|library| library.whose());
+        assert!(linked.is_none_or(|whose| whose == "the library beside"));
+        let both: Vec<&str> = ["the library"].into_iter().chain(linked).collect();
+        assert_eq!(names::<P::Library>(true), both);
+        assert_eq!(names::<P::Library>(false), ["the library"]);
+    }
+    named(&sections(true, 1));
+    named(&timed_files());
+    named(&timed_towers());
+}
+
+fn is_time(pair: Pair) -> bool {
+    [pair.first, pair.second]
+        .iter()
+        .all(|number| *number > 0.0 && number.is_finite())
+}
+
+/// Beside itself, and beside another checkout's if it is linked.
+fn has_times<P: Proved>(work: &P) {
+    for library in P::Library::all(true) {
+        assert!(is_time(beside(work, &library, 1)), "{}", work.name());
+    }
+}
+
+fn has_times_in_rust<P: InRust>(work: &P) {
+    has_times(work);
+    assert!(is_time(beside_rust(work, 1)), "{}", work.name());
+}
+
+fn has_times_of_three<P: Versions>(work: &P) {
+    has_times(work);
+    let times = times(work, 1);
+    let three = [times.library, times.plain, times.exact];
+    assert!(three.iter().all(|time| *time > 0.0 && time.is_finite()));
+}
+
+#[test]
+fn a_library_may_be_timed_beside_another() {
+    has_times_of_three(&sections(true, 1)[0]);
+    timed_files()[..2].iter().for_each(has_times_in_rust);
+    has_times_of_three(&timed_towers()[0]);
+    timed_calls()[..2].iter().for_each(has_times_in_rust);
+}
+
+#[test]
+fn the_tables_of_two_say_beside_what() {
+    let pair = Pair {
+        first: 150.0,
+        second: 100.04,
+    };
+    for (table, versions) in [
+        (PairTable::rust("ns per call"), ["library", "Rust"]),
+        (PairTable::beside("ns per call"), ["library", "beside"]),
+    ] {
+        let (head, line) = (table.head(), table.line("erect: 2915 bytes", pair));
+        assert_eq!(head.len(), line.len());
+        let [first, second] = versions;
+        let ratio = format!("{first}/{second}");
+        let words: Vec<&str> = head.split_whitespace().collect();
+        assert_eq!(words, ["ns", "per", "call", first, second, &ratio]);
+        let words: Vec<&str> = line.split_whitespace().collect();
+        assert_eq!(words, ["erect:", "2915", "bytes", "150.0", "100.0", "1.50"]);
+    }
+}
+
+#[test]
+fn pairs_have_means() {
+    let pair = |first, second| Pair { first, second };
+    let all = [pair(1.0, 10.0), pair(2.0, 30.0), pair(6.0, 20.0)];
+    assert_eq!(Pair::mean(&all), pair(3.0, 20.0));
+}
