@@ -15,8 +15,8 @@ use Rattle.model.specs.Force.{exact}
 use Rattle.model.specs.WholeForm.{grossOf, incidenceDen, incidenceNum, faceDen, faceNum, rootNum, wholeForm}
 use Rattle.model.proofs.WholeForm.{exact-whole}
 use Rattle.model.proofs.ExactForce.{den-positive, exact-sound}
-use Rattle.wide.specs.Bounds.{Between, Decides}
-use Rattle.wide.proofs.Deciding.{decides, none-missing}
+use Rattle.rounding.specs.Bounds.{Between, Decides}
+use Rattle.rounding.proofs.Deciding.{decides, none-missing}
 use Rattle.force.specs.Prepared.{rootSquare}
 use Rattle.force.proofs.Quotient.{num-is, radicand-of, den-is}
 

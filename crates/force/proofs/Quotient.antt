@@ -21,8 +21,8 @@ use Rattle.model.proofs.Bounds.{num-bound}
 use Rattle.wide.specs.declared.U256.{U256}
 use Rattle.wide.specs.declared.U512.{U512}
 use Rattle.wide.specs.Value.{value256, value512}
-use Rattle.wide.specs.Reaching.{surd}
-use Rattle.wide.proofs.Reach.{whole-reaches}
+use Rattle.rounding.specs.Reaching.{surd}
+use Rattle.rounding.proofs.Reach.{whole-reaches}
 
 -- the numerator and the radicand, from the products that code forms
 pub num-sum : (factored inc face items h x y : ℕ) → x ≡ face * inc * factored → y ≡ h * items * factored

@@ -7,7 +7,7 @@ use Rattle.model.specs.declared.Areas.{Areas}
 use Rattle.model.specs.Areas.{solid}
 use Rattle.model.specs.WholeForm.{incidenceDen, incidenceNum, faceDen, faceNum, rootNum}
 use Rattle.wide.specs.Value.{value128}
-use Rattle.wide.specs.Bounds.{Between}
+use Rattle.rounding.specs.Bounds.{Between}
 use Rattle.force.specs.declared.PreparedFace.{PreparedFace}
 use Rattle.force.specs.declared.Terms.{Terms}
 

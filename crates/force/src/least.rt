@@ -87,5 +87,5 @@ pub(crate) fn least_force(
     let n = numerator(factored, x.incidence, x.face, items, x.divisor);
     let d = denominator(x.divisor);
     let m = radicand(legs, factored, x.incidence, a, e);
-    Force(wide::ceiling::ceiling(n, d, m, MOST))
+    Force(rounding::ceiling::ceiling(n, d, m, MOST))
 }

@@ -8,7 +8,7 @@ ghost use Rattle.model.specs.Areas.{solid, largestGross};
 ghost use Rattle.model.specs.Force.{largestItems, exact};
 ghost use Rattle.model.specs.WholeForm.{grossOf};
 ghost use Rattle.wide.specs.Value.{value128};
-ghost use Rattle.wide.specs.Bounds.{Between, Decides};
+ghost use Rattle.rounding.specs.Bounds.{Between, Decides};
 ghost use Rattle.force.specs.Prepared.{Prepared, TermsOf, rootSquare};
 use crate::DecidedForce;
 use crate::PreparedFace;
@@ -18,13 +18,13 @@ use crate::incidence::incidence_num;
 use crate::least::least_force;
 use model::Areas;
 use model::Legs;
+use rounding::Bounds128;
+use rounding::Candidate;
+use rounding::bounds::least_beside;
+use rounding::bounds::least_between;
 use units::Area;
 use units::Force;
-use wide::Bounds128;
-use wide::Candidate;
 use wide::U128;
-use wide::bounds::least_beside;
-use wide::bounds::least_between;
 
 // Bounds of a face's sum less its root.
 fn less_root(legs: Legs, a: Areas, e: u64, sum: U128) -> Bounds128
@@ -42,7 +42,7 @@ fn less_root(legs: Legs, a: Areas, e: u64, sum: U128) -> Bounds128
     let s = a.flat.0 + a.subcritical.0 + p;
     let root = crate::face::root_num(legs, s, e);
     let square = wide::product::mul64(root.open, root.linear);
-    wide::bounds::less_root(sum, p * (s + e), square)
+    rounding::bounds::less_root(sum, p * (s + e), square)
 }
 
 // `gap` is the open area A_u − A_S.

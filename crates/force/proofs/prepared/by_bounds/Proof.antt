@@ -1,5 +1,5 @@
 use mathlib.Core.Path.{refl}
-use Rattle.wide.proofs.Deciding.{not-so}
+use Rattle.rounding.proofs.Deciding.{not-so}
 use borrow.Author.Needs.{needs}
 use Rattle.force.proofs.prepared.by_bounds.Statement.{statement}
 use Rattle.force.proofs.prepared.by_bounds.Tie as tie
