@@ -35,12 +35,16 @@ extern "C" {
 
 /*
  * Stack that a thread should have left for a call. It is measured, not proved:
- * examples/c/limits.c found 66 279 bytes in use on the largest tower. The rest
+ * examples/c/limits.c found 66 391 bytes in use on the largest tower. The rest
  * is for a loader that binds memcpy on its first call.
  */
 #define DEMBYHAI_STACK_BYTES 81920
 
-/* The numbers of one row, in this order. */
+/*
+ * The numbers of one row, in this order. The areas are those at the section's
+ * pressure. The force is the greatest at that pressure and in the lesser winds
+ * in which a supercritical tube is not supercritical any more.
+ */
 enum dembyhai_number {
     DEMBYHAI_AREA_FLAT = 0,          /* A_f, flat members, mm2 */
     DEMBYHAI_AREA_SUBCRITICAL = 1,   /* A_c, round, subcritical flow, mm2 */

@@ -74,7 +74,9 @@ pub fn flow(member: Member, ice: Length, pressure: u16) -> Flow {
     }
 }
 
-/// A_f, A_c and A_p of a section.
+/// A_f, A_c and A_p of a section. It is part of each caller's code, as the plain
+/// force is timed.
+#[inline(always)]
 pub fn areas(section: &Section, ice: Length, pressure: u16) -> Areas {
     let mut areas = Areas::default();
     for group in &section.groups {

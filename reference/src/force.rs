@@ -1,33 +1,34 @@
-//! The exact force on a section, as document 01 prints it.
+//! The exact force on a section: the greatest value of document 01's formula at
+//! full pressure and in lesser winds.
 
 use crate::areas::{areas, gross_face_area, item_area, Areas};
 use crate::rational::Rational;
 use crate::tower::{Legs, Section, Tower, Wind};
-use crate::units::{Area, Force};
+use crate::units::{Area, Force, Length};
 use std::cmp::Ordering;
 
-/// The exact force in N: `rational - factor sqrt(radicand)`, with a factor and
-/// a radicand that are not negative.
+/// A value of the formula in N: `rational - factor sqrt(radicand)`, with a
+/// factor and a radicand that are not negative.
 #[derive(Clone, Debug)]
-pub struct ExactForce {
+pub struct Rooted {
     rational: Rational,
     /// factor² times radicand.
     root_squared: Rational,
 }
 
-impl ExactForce {
+impl Rooted {
     /// The number `rational - factor sqrt(radicand)`.
-    pub fn new(rational: Rational, factor: &Rational, radicand: &Rational) -> ExactForce {
+    pub fn new(rational: Rational, factor: &Rational, radicand: &Rational) -> Rooted {
         assert!(!factor.is_negative(), "a negative factor");
         assert!(!radicand.is_negative(), "the root of a negative number");
         let root_squared = factor.squared() * radicand;
-        ExactForce {
+        Rooted {
             rational,
             root_squared,
         }
     }
 
-    /// How the exact force compares with a fraction, by squares.
+    /// How the value compares with a fraction, by squares.
     pub fn compare(&self, fraction: &Rational) -> Ordering {
         let difference = &self.rational - fraction;
         if difference.is_negative() {
@@ -36,13 +37,13 @@ impl ExactForce {
         difference.squared().cmp(&self.root_squared)
     }
 
-    /// Whether exact <= force.
+    /// Whether value <= force.
     pub fn is_at_most(&self, force: Force) -> bool {
         self.compare(&Rational::whole(force.0)) != Ordering::Greater
     }
 
-    /// The least whole number of newtons that is not below the exact force.
-    /// No exact force is negative, so the search starts at 0.
+    /// The least whole number of newtons that is not below the value. No value
+    /// of the formula is negative, so the search starts at 0.
     pub fn least_whole(&self) -> Force {
         let mut enough = 1;
         while !self.is_at_most(Force(enough)) {
@@ -61,10 +62,81 @@ impl ExactForce {
     }
 }
 
+/// The exact force in N: the greatest of some values.
+#[derive(Clone, Debug)]
+pub struct ExactForce {
+    /// Never empty.
+    values: Vec<Rooted>,
+}
+
+impl ExactForce {
+    /// The greatest of these; there must be one.
+    pub fn greatest(values: Vec<Rooted>) -> ExactForce {
+        assert!(!values.is_empty(), "the greatest of no values");
+        ExactForce { values }
+    }
+
+    /// How the exact force compares with a fraction: it is greater if any value
+    /// is, else equal if any is.
+    pub fn compare(&self, fraction: &Rational) -> Ordering {
+        let orders = self.values.iter().map(|value| value.compare(fraction));
+        orders.max().expect("a value")
+    }
+
+    /// Whether exact <= force.
+    pub fn is_at_most(&self, force: Force) -> bool {
+        self.compare(&Rational::whole(force.0)) != Ordering::Greater
+    }
+
+    /// The least whole number of newtons that is not below the exact force, so
+    /// below no value.
+    pub fn least_whole(&self) -> Force {
+        let raise = |least: Force, value: &Rooted| {
+            if value.is_at_most(least) {
+                least
+            } else {
+                value.least_whole()
+            }
+        };
+        self.values.iter().fold(Force(0), raise)
+    }
+}
+
 /// The exact force on one section of the tower.
 pub fn exact_force(tower: &Tower, wind: &Wind, section: usize) -> ExactForce {
-    let ice = wind.ice_thickness();
     let pressure = wind.pressures[section];
+    let lesser = lesser_pressures(&tower.sections[section], wind.ice_thickness(), pressure);
+    let pressures = [pressure].into_iter().chain(lesser);
+    let value = |pressure| formula(tower, wind, section, pressure);
+    ExactForce::greatest(pressures.map(value).collect())
+}
+
+/// The pressures of the lesser winds, rising: those below this one beyond which
+/// a round turns supercritical, and so the areas by class change.
+pub fn lesser_pressures(section: &Section, ice: Length, pressure: u16) -> Vec<u16> {
+    changes(section, ice, 0, pressure)
+}
+
+/// The pressures from `low` to below `high` beyond which the areas change. With
+/// rising pressure area goes from A_c to A_p and never back, so where both ends
+/// have the same areas nothing changes between them.
+fn changes(section: &Section, ice: Length, low: u16, high: u16) -> Vec<u16> {
+    if areas(section, ice, low) == areas(section, ice, high) {
+        return Vec::new();
+    }
+    let middle = low + (high - low) / 2;
+    if middle == low {
+        return vec![low];
+    }
+    let mut all = changes(section, ice, low, middle);
+    all.extend(changes(section, ice, middle, high));
+    all
+}
+
+/// The value of document 01's formula for a section at this pressure, whatever
+/// the wind's is.
+pub fn formula(tower: &Tower, wind: &Wind, section: usize, pressure: u16) -> Rooted {
+    let ice = wind.ice_thickness();
     let areas = areas(&tower.sections[section], ice, pressure);
     let phi = solidity_ratio(&tower.sections[section], areas);
     let load = Rational::whole(u64::from(pressure)) * thousandths(wind.structure_factor);
@@ -78,7 +150,7 @@ pub fn exact_force(tower: &Tower, wind: &Wind, section: usize) -> ExactForce {
     let rational = &load * (face + items_resistance(tower, wind, section));
 
     let factor = load * k_theta * square_metres(areas.supercritical);
-    ExactForce::new(rational, &factor, &radicand(tower.legs, &phi))
+    Rooted::new(rational, &factor, &radicand(tower.legs, &phi))
 }
 
 /// φ = A_S / A_u. Items are not in it.

@@ -1,18 +1,19 @@
-//! Document 01's formula in plain floating point, as an engineer would write
-//! it. It is near the exact force, at times below it, and only compared with.
+//! The exact force in plain floating point, as an engineer would write it. It is
+//! near the exact one, at times below it, and only compared with.
 
-use crate::areas::{areas, gross_face_area, item_area, Areas};
+use crate::areas::{areas, flow, gross_face_area, item_area, Areas, Flow};
 use crate::tower::{Legs, Section, Tower, Wind, SECTION_COUNT};
 use crate::units::Area;
 
-/// The force on a section in N at pressure q, not rounded. `items` is the sum
-/// of coefficient times K times area over its items, in m².
+/// The force on a section in N at pressure q and in lesser winds, not rounded.
+/// `items` is the sum of coefficient times K times area over its items, in m².
 pub fn force(legs: Legs, section: &Section, wind: &Wind, pressure: u16, items: f64) -> f64 {
     let areas = areas(section, wind.ice_thickness(), pressure);
     force_on(legs, section, areas, wind, pressure, items)
 }
 
-/// The same with the section's areas ready made.
+/// The same with the section's areas at pressure q ready made.
+#[inline(always)]
 fn force_on(
     legs: Legs,
     section: &Section,
@@ -21,28 +22,98 @@ fn force_on(
     pressure: u16,
     items: f64,
 ) -> f64 {
-    let solid = number(areas.solid());
-    let phi = solid / number(gross_face_area(section));
-    let (flat, subcritical, supercritical) = (
-        number(areas.flat),
-        number(areas.subcritical),
-        number(areas.supercritical),
-    );
-    let (c1, c2) = match legs {
-        Legs::Four => (2.25, 1.5),
-        Legs::Three => (1.9, 1.4),
-    };
-    let c_f = 1.76 * c1 * (1.0 - c2 * phi + phi * phi);
-    let c_c = c1 * (1.0 - c2 * phi) + (c1 + 0.875) * phi * phi;
-    let c_p = 1.9 - ((1.0 - phi) * (2.8 - 1.14 * c1 + phi)).sqrt();
-    let (flats, rounds) = (flat / solid, (subcritical + supercritical) / solid);
-    let s = direction_share(legs, wind.direction);
-    let k_theta = match legs {
-        Legs::Four => 1.0 + (0.55 * flats + 0.8 * rounds) * solidity_share(phi) * s,
-        Legs::Three => rounds + flats * (1.0 - 0.1 * s),
-    };
-    let face = k_theta * (c_f * flat + c_c * subcritical + c_p * supercritical) / 1e6;
-    f64::from(pressure) * f64::from(wind.structure_factor) / 1e3 * (face + items)
+    let by_class = numbers(areas);
+    let face = Face::new(legs, section, by_class, wind, items);
+    let full = face.force(by_class, pressure);
+    if areas.supercritical == Area(0) {
+        return full;
+    }
+    face.in_lesser_winds(section, by_class, wind, pressure, full)
+}
+
+/// Document 01's formula at this pressure alone.
+pub fn formula(legs: Legs, section: &Section, wind: &Wind, pressure: u16, items: f64) -> f64 {
+    let by_class = numbers(areas(section, wind.ice_thickness(), pressure));
+    Face::new(legs, section, by_class, wind, items).force(by_class, pressure)
+}
+
+/// What does not depend on the pressure.
+struct Face {
+    /// c_f, c_c and c_p.
+    coefficients: [f64; 3],
+    k_theta: f64,
+    items: f64,
+    /// The structure factor in thousandths.
+    factor: f64,
+}
+
+impl Face {
+    #[inline(always)]
+    fn new(legs: Legs, section: &Section, by_class: [f64; 3], wind: &Wind, items: f64) -> Face {
+        let [flat, subcritical, supercritical] = by_class;
+        let solid = flat + subcritical + supercritical;
+        let phi = solid / number(gross_face_area(section));
+        let (c1, c2) = match legs {
+            Legs::Four => (2.25, 1.5),
+            Legs::Three => (1.9, 1.4),
+        };
+        let c_f = 1.76 * c1 * (1.0 - c2 * phi + phi * phi);
+        let c_c = c1 * (1.0 - c2 * phi) + (c1 + 0.875) * phi * phi;
+        let c_p = 1.9 - ((1.0 - phi) * (2.8 - 1.14 * c1 + phi)).sqrt();
+        let (flats, rounds) = (flat / solid, (subcritical + supercritical) / solid);
+        let s = direction_share(legs, wind.direction);
+        let k_theta = match legs {
+            Legs::Four => 1.0 + (0.55 * flats + 0.8 * rounds) * solidity_share(phi) * s,
+            Legs::Three => rounds + flats * (1.0 - 0.1 * s),
+        };
+        Face {
+            coefficients: [c_f, c_c, c_p],
+            k_theta,
+            items,
+            factor: f64::from(wind.structure_factor),
+        }
+    }
+
+    /// The force at this pressure, with the areas by class that it has there.
+    #[inline(always)]
+    fn force(&self, [flat, subcritical, supercritical]: [f64; 3], pressure: u16) -> f64 {
+        let [c_f, c_c, c_p] = self.coefficients;
+        let face = self.k_theta * (c_f * flat + c_c * subcritical + c_p * supercritical) / 1e6;
+        f64::from(pressure) * self.factor / 1e3 * (face + self.items)
+    }
+
+    /// The greatest of the force at full pressure and those in the lesser winds,
+    /// one for each supercritical group.
+    fn in_lesser_winds(
+        &self,
+        section: &Section,
+        [flat, subcritical, supercritical]: [f64; 3],
+        wind: &Wind,
+        pressure: u16,
+        full: f64,
+    ) -> f64 {
+        let ice = wind.ice_thickness();
+        // c_c is above c_p: no wind has more for each N/m² than without
+        // supercritical members
+        let most = self.force([flat, subcritical + supercritical, 0.0], 1);
+        let mut greatest = full;
+        for group in &section.groups {
+            if flow(group.member, ice, pressure) == Flow::Supercritical {
+                let diameter = group.member.bare_width().0;
+                let lesser = (22_500_000 / (diameter * diameter)) as u16;
+                if f64::from(lesser) * most > greatest {
+                    let by_class = numbers(areas(section, ice, lesser));
+                    greatest = greatest.max(self.force(by_class, lesser));
+                }
+            }
+        }
+        greatest
+    }
+}
+
+/// A_f, A_c and A_p in mm².
+fn numbers(areas: Areas) -> [f64; 3] {
+    [areas.flat, areas.subcritical, areas.supercritical].map(number)
 }
 
 /// The force rounded up to whole newtons.

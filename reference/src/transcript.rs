@@ -1,9 +1,10 @@
-//! Document 01's sample towers as titled requests: what the program `samples`
-//! reads, and the transcript that it has to print.
+//! Document 01's sample towers and those of the requests, as titled requests:
+//! what the program `samples` reads, and the transcript that it has to print.
 
 mod allowances;
 mod further;
 mod histories;
+mod lesser;
 mod readers;
 mod refused;
 mod starred;
@@ -41,6 +42,7 @@ pub fn samples() -> Vec<Sample> {
     [
         refused::no_tower(),
         starred::samples(),
+        lesser::samples(),
         further::samples(),
         readers::samples(),
         histories::samples(),

@@ -6,8 +6,10 @@ mod hosts;
 mod lists;
 mod table;
 
+use crate::cases::lesser;
 use crate::draw::{self, Random};
 use crate::file;
+use crate::force::{formula, lesser_pressures};
 use crate::refusal::Refusal;
 use crate::report::ROW;
 use crate::service::Service;
@@ -40,6 +42,19 @@ pub struct TowerCase {
     pub over: Vec<u8>,
     /// What check answers; the number of sections if none is over.
     pub topmost: usize,
+}
+
+impl TowerCase {
+    fn has_lesser_wind(&self, section: usize) -> bool {
+        let (ice, pressure) = (self.wind.ice_thickness(), self.wind.pressures[section]);
+        !lesser_pressures(&self.tower.sections[section], ice, pressure).is_empty()
+    }
+
+    /// The formula's value at full pressure, rounded up.
+    fn full_force(&self, section: usize) -> Force {
+        let pressure = self.wind.pressures[section];
+        formula(&self.tower, &self.wind, section, pressure).least_whole()
+    }
 }
 
 /// A file, and the number of its refusal.
@@ -132,6 +147,21 @@ impl Vectors {
         table::table(self)
     }
 
+    /// How many of the towers' forces are those of a lesser wind, and how many are
+    /// not though there is one.
+    pub fn lesser_winds(&self) -> (usize, usize) {
+        let (mut governed, mut not_governed) = (0, 0);
+        for case in &self.towers {
+            for section in 0..case.tower.sections.len() {
+                let (lesser, full) = (case.has_lesser_wind(section), case.full_force(section));
+                let above = case.rows[ROW * section + 3] > full.0;
+                governed += usize::from(above);
+                not_governed += usize::from(lesser && !above);
+            }
+        }
+        (governed, not_governed)
+    }
+
     /// The refusals of the files.
     pub fn file_refusals(&self) -> Counts {
         count(self.files.iter().map(|case| case.refusal))
@@ -195,7 +225,27 @@ fn tower_cases() -> Vec<TowerCase> {
         }
     }
     cases.extend((0..132).map(|place| tower_case(&mut random, place)));
+    cases.extend(lesser_cases());
     cases
+}
+
+/// Sections with lesser winds, each a tower of its own: among them ones with two
+/// to nine values of which any may govern, and items.
+fn lesser_cases() -> impl Iterator<Item = TowerCase> {
+    let cases = [
+        lesser::emptiest(),
+        lesser::two_rounds(),
+        lesser::eight_rounds(),
+        lesser::middle(),
+        lesser::same_diameter(),
+        lesser::same_pressure(),
+        lesser::hung(),
+        lesser::relieved(),
+    ];
+    cases.into_iter().flatten().map(|mut case| {
+        case.tower.items.retain(|item| item.section == 0);
+        reported(case.tower, case.wind)
+    })
 }
 
 /// One section with this solidity ratio exactly, and a wind across a corner.

@@ -1,3 +1,4 @@
 pub mod Facts
 pub mod Sums
+pub mod LesserPressures
 pub mod Fits

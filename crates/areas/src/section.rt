@@ -44,8 +44,10 @@ pub fn group_area(t: Length, g: Group) -> Area
     }
 }
 
+pub(crate) const FLOW_LIMIT: u64 = 45_000_000;
+
 // With the bare diameter d, and only where there is no ice.
-fn is_supercritical(t: Length, q: u16, d: Length) -> bool
+pub(crate) fn is_supercritical(t: Length, q: u16, d: Length) -> bool
     requires { ⌜ d .0 ≤ 1000 ⌝ }
     ensures { λ r. ⌜ r ≡ isSupercritical t q d ⌝ }
 {
@@ -53,7 +55,7 @@ fn is_supercritical(t: Length, q: u16, d: Length) -> bool
         return false;
     }
     let x = d.0 as u64;
-    45_000_000 < 2 * (q as u64) * (x * x)
+    FLOW_LIMIT < 2 * (q as u64) * (x * x)
 }
 
 pub fn flow_class(t: Length, q: u16, m: Member) -> Flow

@@ -2,16 +2,18 @@
 use Prim.Native.Nat.{ℕ, zero, suc, _+_, _-_, _≤_, _<_}
 use mathlib.Core.Path.{_≡_, refl, sym, subst}
 use mathlib.Core.Bool.{Bool, true, false, cond, _||_}
+use mathlib.Core.List.{[], _∷_}
 use mathlib.Core.Logic.{_⊎_, inl, inr, ⊎-elim}
 use native.Mathlib.Omega.{arith}
 use native.Mathlib.Nat.{mul-le-mul-right, mul-lt-mul-of-pos-right}
 use borrow.Author.Tests.{leb-true, le-leb}
 use Rattle.exact.specs.Fraction.{Fraction, _//_, whole, _⊕_, _≼_, _≺_, _≼ᵇ_, Proper}
-use Rattle.exact.specs.Number.{Exact, AtMost, AtLeast, over, squared, Sound, Same, Within, Least, atLeastᵇ, first, ceiling}
-use Rattle.exact.proofs.Bools.{clash}
+use Rattle.exact.specs.Rooted.{Rooted, _√≼_, over, squared, _√≼ᵇ_, first, roundedUp, Defined}
+use Rattle.exact.specs.Number.{Every, none, also, Exact, only, Sound, AtMost, AtLeast, Within, Least, atLeastᵇ, ceiling}
+use Rattle.exact.proofs.Bools.{clash, and-split, and-join}
 use Rattle.exact.proofs.Order.{le-or-lt, ≼-or-≺}
 use Rattle.exact.proofs.Arithmetic.{whole-proper}
-use Rattle.exact.proofs.Compare.{ordered, at-least-up, least-same}
+use Rattle.exact.proofs.Greatest.{sound-only, at-least-only, only-at-least, ordered, at-least-up, whole-≼, least-join}
 
 -- the tests decide
 pub ≼-test : {x y : Fraction} → x ≼ y → (x ≼ᵇ y) ≡ true
@@ -22,22 +24,38 @@ pub test-≼ : (x y : Fraction) → (x ≼ᵇ y) ≡ true → x ≼ y
 unfolding _≼ᵇ_
 test-≼ x y h = record { cross = leb-true _ _ h }
 
-pub at-least-test : {e : Exact} {x : Fraction} → AtLeast e x → atLeastᵇ e x ≡ true
-unfolding atLeastᵇ
-at-least-test (over h) = rw (≼-test h)
-at-least-test {e} {x} (squared h) = either (e .rational ≼ᵇ x) (≼-test h)
+pub √-test : {v : Rooted} {x : Fraction} → v √≼ x → (v √≼ᵇ x) ≡ true
+unfolding _√≼ᵇ_
+√-test (over h) = rw (≼-test h)
+√-test {v} {x} (squared h) = either (v .rational ≼ᵇ x) (≼-test h)
   where
     either : (a : Bool) {b : Bool} → b ≡ true → (a || b) ≡ true
     either true k = refl
     either false k = k
 
-pub test-at-least : (e : Exact) (x : Fraction) → atLeastᵇ e x ≡ true → AtLeast e x
-unfolding atLeastᵇ
-test-at-least e x t = go (e .rational ≼ᵇ x) refl
+pub test-√ : (v : Rooted) (x : Fraction) → (v √≼ᵇ x) ≡ true → v √≼ x
+unfolding _√≼ᵇ_
+test-√ v x t = go (v .rational ≼ᵇ x) refl
   where
-    go : (a : Bool) → (e .rational ≼ᵇ x) ≡ a → AtLeast e x
+    go : (a : Bool) → (v .rational ≼ᵇ x) ≡ a → v √≼ x
     go true h = over (test-≼ _ _ h)
     go false h = squared (test-≼ _ _ (rw h at t))
+
+pub at-least-test : {e : Exact} {x : Fraction} → AtLeast e x → atLeastᵇ e x ≡ true
+unfolding atLeastᵇ
+at-least-test {e} {x} h = go (h .each)
+  where
+    go : {vs : Exact} → Every (λ v. v √≼ x) vs → atLeastᵇ vs x ≡ true
+    go none = refl
+    go (also p ps) = and-join (√-test p) (go ps)
+
+pub test-at-least : (e : Exact) (x : Fraction) → atLeastᵇ e x ≡ true → AtLeast e x
+unfolding atLeastᵇ
+test-at-least e x t = record { each = go e t }
+  where
+    go : (vs : Exact) → atLeastᵇ vs x ≡ true → Every (λ v. v √≼ x) vs
+    go [] h = none
+    go (v ∷ vs) h = let g : _ = and-split (v √≼ᵇ x) (atLeastᵇ vs x) h in also (test-√ v x (g .0)) (go vs (g .1))
 
 pub least-unique : {e : Exact} {m n : ℕ} → Least e m → Least e n → m ≡ n
 least-unique {e} {m} {n} a b =
@@ -55,44 +73,51 @@ not-le : (n m : ℕ) → 0 < m → m ≤ n → n ≤ n - m → ⊥
 not-le n m p h g = omega arith
 
 -- the search: what holds of its result, from what holds at n and of the search after n
-module _ (e : Exact) where
-  found : (P : ℕ → Type 0) (n rest : ℕ) → (AtLeast e (whole n) → P n) → ((AtLeast e (whole n) → ⊥) → P rest)
-      → P (cond (atLeastᵇ e (whole n)) n rest)
-  found P n rest now later = go (atLeastᵇ e (whole n)) refl
+module _ (v : Rooted) where
+  found : (P : ℕ → Type 0) (n rest : ℕ) → (v √≼ whole n → P n) → ((v √≼ whole n → ⊥) → P rest) → P (cond (v √≼ᵇ whole n) n rest)
+  found P n rest now later = go (v √≼ᵇ whole n) refl
     where
-      go : (a : Bool) → atLeastᵇ e (whole n) ≡ a → P (cond a n rest)
-      go true k = now (test-at-least e (whole n) k)
-      go false k = later (λ h. clash (at-least-test h) k)
+      go : (a : Bool) → v √≼ᵇ whole n ≡ a → P (cond a n rest)
+      go true k = now (test-√ v (whole n) k)
+      go false k = later (λ h. clash (√-test h) k)
 
-  first-enough : (more n : ℕ) → AtLeast e (whole (n + more)) → AtLeast e (whole (first e more n))
+  first-enough : (more n : ℕ) → v √≼ whole (n + more) → v √≼ whole (first v more n)
   unfolding first
   first-enough zero n h = let k : n + 0 ≡ n = omega arith in rw k at h
   first-enough (suc more) n h =
       let j : n + suc more ≡ suc n + more = omega arith in
-      found (λ i. AtLeast e (whole i)) n (first e more (suc n)) (λ k. k) (λ k. first-enough more (suc n) (rw j at h))
+      found (λ i. v √≼ whole i) n (first v more (suc n)) (λ k. k) (λ k. first-enough more (suc n) (rw j at h))
 
-  first-least : (more n m : ℕ) → n ≤ m → AtLeast e (whole m) → first e more n ≤ m
+  first-least : (more n m : ℕ) → n ≤ m → v √≼ whole m → first v more n ≤ m
   unfolding first
   first-least zero n m b h = b
   first-least (suc more) n m b h =
-      found (λ i. i ≤ m) n (first e more (suc n)) (λ k. b) (λ k. first-least more (suc n) m (after k) h)
+      found (λ i. i ≤ m) n (first v more (suc n)) (λ k. b) (λ k. first-least more (suc n) m (after k) h)
     where
-      after : (AtLeast e (whole n) → ⊥) → suc n ≤ m
+      after : (v √≼ whole n → ⊥) → suc n ≤ m
       after k =
-          let d : n ≡ m → ⊥ = λ q. k (subst (λ i. AtLeast e (whole i)) (sym q) h) in
+          let d : n ≡ m → ⊥ = λ q. k (subst (λ i. v √≼ whole i) (sym q) h) in
           ne-lt n m b d
 
-  numerator-enough : Proper (e .rational) → AtLeast e (whole (0 + e .rational .pos))
+  numerator-enough : Proper (v .rational) → v √≼ whole (0 + v .rational .pos)
   unfolding whole _//_
-  numerator-enough d = over (record { cross = omega (arith, mul-le-mul-right (e .rational .pos) (d .positive)) })
+  numerator-enough d = over (record { cross = omega (arith, mul-le-mul-right (v .rational .pos) (d .positive)) })
 
-  pub ceiling-least : Proper (e .rational) → Least e (ceiling e)
-  unfolding ceiling
-  ceiling-least d =
+  rounded-least : Defined v → Least (only v) (roundedUp v)
+  unfolding roundedUp
+  rounded-least d =
       record {
-        enough = first-enough (e .rational .pos) 0 (numerator-enough d);
-        least = λ m h. first-least (e .rational .pos) 0 m (omega arith) h;
+        enough = at-least-only (first-enough (v .rational .pos) 0 (numerator-enough (d .rational)));
+        least = λ m h. first-least (v .rational .pos) 0 m (omega arith) (only-at-least h);
       }
+
+pub ceiling-least : {e : Exact} → Sound e → Least e (ceiling e)
+unfolding ceiling
+ceiling-least s = go (s .each)
+  where
+    go : {vs : Exact} → Every Defined vs → Least vs (ceiling vs)
+    go none = record { enough = record { each = none }; least = λ m h. omega arith }
+    go (also d ds) = least-join (sound-only d) (record { each = ds }) (rounded-least _ d) (go ds)
 
 -- steps of whole numbers
 step-above : {x : Fraction} (margin n : ℕ) → whole n ≺ x → whole (n + margin) ≺ x ⊕ whole margin
@@ -128,24 +153,15 @@ module _ {e : Exact} (s : Sound e) (z : AtMost (whole 0) e) where
           rw (← j) (within-large s margin (n - margin) (rw j (c .enough)) (λ k. not-le n margin p h (c .least (n - margin) k)))
 
   pub ceiling-within : (margin : ℕ) → 0 < margin → Within margin e (ceiling e)
-  ceiling-within margin p = least-within margin (ceiling e) p (ceiling-least e (s .rational))
+  ceiling-within margin p = least-within margin (ceiling e) p (ceiling-least s)
 
   -- rounding up stays below every whole number that is at least e
   pub ceiling-bound : (n : ℕ) → AtLeast e (whole n) → ceiling e ≤ n
-  ceiling-bound n h = ceiling-least e (s .rational) .least n h
-
--- the same number has the same ceiling
-pub ceiling-same : {x y : Exact} → Sound x → Sound y → Same x y → ceiling x ≡ ceiling y
-ceiling-same {x} {y} sx sy e =
-    least-unique (least-same sx sy e (ceiling-least x (sx .rational))) (ceiling-least y (sy .rational))
-
-whole-≼ : {m n : ℕ} → m ≤ n → whole m ≼ whole n
-unfolding whole _//_
-whole-≼ h = record { cross = omega arith }
+  ceiling-bound n h = ceiling-least s .least n h
 
 -- the ceiling by two tests: n + 1 is enough, and n is not
 pub ceiling-tested : {e : Exact} → Sound e → (n : ℕ) → atLeastᵇ e (whole (n + 1)) ≡ true → atLeastᵇ e (whole n) ≡ false → ceiling e ≡ n + 1
-ceiling-tested {e} s n h g = least-unique (ceiling-least e (s .rational)) (record { enough = test-at-least e (whole (n + 1)) h; least = above })
+ceiling-tested {e} s n h g = least-unique (ceiling-least s) (record { enough = test-at-least e (whole (n + 1)) h; least = above })
   where
     above : (m : ℕ) → AtLeast e (whole m) → n + 1 ≤ m
     above m k =

@@ -1,8 +1,7 @@
--- The comparison of a fraction with an exact number. Callers use these laws, and not the squares behind them.
-use Prim.Native.Nat.{ℕ}
+-- The comparison of a fraction with a number with a root. Callers use these laws, and not the squares behind them.
 use mathlib.Core.Logic.{_⊎_, inl, inr, ⊎-elim}
-use Rattle.exact.specs.Fraction.{Fraction, whole, _⊖_, _·_, _≼_, _≺_, Proper}
-use Rattle.exact.specs.Number.{Exact, _⊞_, _⊙_, square, AtMost, AtLeast, over, squared, Sound, Same, Within, Least}
+use Rattle.exact.specs.Fraction.{Fraction, _⊖_, _·_, _≼_, _≺_, Proper}
+use Rattle.exact.specs.Rooted.{Rooted, _⊞_, _⊙_, square, _≼√_, _√≼_, over, squared, Defined, Same}
 use Rattle.exact.proofs.Order.{≼-trans, ≼-or-≺, ≺→≼, ≈→≼, ≈→≽, ≈-sym}
 use Rattle.exact.proofs.Arithmetic.{
   ·-proper,
@@ -18,42 +17,42 @@ use Rattle.exact.proofs.Arithmetic.{
   whole-proper,
 }
 
-pub square-proper : {e : Exact} → Sound e → Proper (square e)
+pub square-proper : {e : Rooted} → Defined e → Proper (square e)
 unfolding square
 square-proper s = ·-proper _ _ (·-proper _ _ (s .factor) (s .factor)) (s .radicand)
 
 -- sums and products of numbers with no denominator 0
-pub ⊞-sound : {x : Fraction} {e : Exact} → Proper x → Sound e → Sound (x ⊞ e)
+pub ⊞-defined : {x : Fraction} {e : Rooted} → Proper x → Defined e → Defined (x ⊞ e)
 unfolding _⊞_
-⊞-sound d s = record { rational = ⊕-proper _ _ d (s .rational); factor = s .factor; radicand = s .radicand }
+⊞-defined d s = record { rational = ⊕-proper _ _ d (s .rational); factor = s .factor; radicand = s .radicand }
 
-pub ⊙-sound : {x : Fraction} {e : Exact} → Proper x → Sound e → Sound (x ⊙ e)
+pub ⊙-defined : {x : Fraction} {e : Rooted} → Proper x → Defined e → Defined (x ⊙ e)
 unfolding _⊙_
-⊙-sound d s = record { rational = ·-proper _ _ d (s .rational); factor = ·-proper _ _ d (s .factor); radicand = s .radicand }
+⊙-defined d s = record { rational = ·-proper _ _ d (s .rational); factor = ·-proper _ _ d (s .factor); radicand = s .radicand }
 
-module _ {e : Exact} (s : Sound e) where
+module _ {e : Rooted} (s : Defined e) where
   gap : {x : Fraction} → Proper x → Proper (e .rational ⊖ x)
   gap d = ⊖-proper _ _ (s .rational) d
 
   -- x ≤ e ≤ y gives x ≤ y
-  pub ordered : {x y : Fraction} → Proper x → Proper y → AtMost x e → AtLeast e y → x ≼ y
-  ordered {x} {y} c d l (over h) = ≼-trans (s .rational) (l .under) h
-  ordered {x} {y} c d l (squared h) =
+  pub √-ordered : {x y : Fraction} → Proper x → Proper y → x ≼√ e → e √≼ y → x ≼ y
+  √-ordered {x} {y} c d l (over h) = ≼-trans (s .rational) (l .under) h
+  √-ordered {x} {y} c d l (squared h) =
       ⊖-unflip (e .rational) (s .rational)
       (sq-≼⁻¹ (gap d) (gap c) (nonneg-of-≼ (l .under)) (≼-trans (square-proper s) h (l .squared)))
 
   -- every fraction is at most e or at least e
-  pub comparable : (x : Fraction) → AtMost x e ⊎ AtLeast e x
-  comparable x = ⊎-elim (λ h. inr (over h)) under (≼-or-≺ (e .rational) x)
+  pub √-comparable : (x : Fraction) → (x ≼√ e) ⊎ (e √≼ x)
+  √-comparable x = ⊎-elim (λ h. inr (over h)) under (≼-or-≺ (e .rational) x)
     where
-      under : x ≺ e .rational → AtMost x e ⊎ AtLeast e x
+      under : x ≺ e .rational → (x ≼√ e) ⊎ (e √≼ x)
       under h =
           ⊎-elim (λ g. inl (record { under = ≺→≼ _ _ h; squared = g })) (λ g. inr (squared (≺→≼ _ _ g)))
           (≼-or-≺ (square e) ((e .rational ⊖ x) · (e .rational ⊖ x)))
 
   -- what is below a number that is at most e is at most e
-  pub at-most-down : {x y : Fraction} → Proper x → Proper y → x ≼ y → AtMost y e → AtMost x e
-  at-most-down c d h l =
+  pub √-down : {x y : Fraction} → Proper x → Proper y → x ≼ y → y ≼√ e → x ≼√ e
+  √-down c d h l =
       record {
         under = ≼-trans d h (l .under);
         squared =
@@ -62,25 +61,25 @@ module _ {e : Exact} (s : Sound e) where
       }
 
   -- what is above a number that is at least e is at least e
-  pub at-least-up : {x y : Fraction} → Proper x → Proper y → x ≼ y → AtLeast e x → AtLeast e y
-  at-least-up c d h (over g) = over (≼-trans c g h)
-  at-least-up {x} {y} c d h (squared g) = ⊎-elim over under (≼-or-≺ (e .rational) y)
+  pub √-up : {x y : Fraction} → Proper x → Proper y → x ≼ y → e √≼ x → e √≼ y
+  √-up c d h (over g) = over (≼-trans c g h)
+  √-up {x} {y} c d h (squared g) = ⊎-elim over under (≼-or-≺ (e .rational) y)
     where
-      under : y ≺ e .rational → AtLeast e y
+      under : y ≺ e .rational → e √≼ y
       under k =
           squared
           (≼-trans (·-proper _ _ (gap c) (gap c)) (sq-≼ (gap d) (nonneg-of-≼ (≺→≼ _ _ k)) (⊖-flip (e .rational) h)) g)
 
-pub same-sym : {x y : Exact} → Same x y → Same y x
+pub same-sym : {x y : Rooted} → Same x y → Same y x
 same-sym e = record { rational = ≈-sym _ _ (e .rational); square = ≈-sym _ _ (e .square) }
 
 -- the same number compares alike
-module _ {x y : Exact} (sx : Sound x) (e : Same x y) (z : Fraction) (d : Proper z) where
+module _ {x y : Rooted} (sx : Defined x) (e : Same x y) (z : Fraction) (d : Proper z) where
   gaps : Proper ((x .rational ⊖ z) · (x .rational ⊖ z))
   gaps = ·-proper _ _ (⊖-proper _ _ (sx .rational) d) (⊖-proper _ _ (sx .rational) d)
 
-  pub at-most-same : AtMost z x → AtMost z y
-  at-most-same l =
+  pub below-same : z ≼√ x → z ≼√ y
+  below-same l =
       record {
         under = ≼-trans (sx .rational) (l .under) (≈→≼ _ _ (e .rational));
         squared =
@@ -88,23 +87,8 @@ module _ {x y : Exact} (sx : Sound x) (e : Same x y) (z : Fraction) (d : Proper 
             (≼-trans gaps (l .squared) (≈→≼ _ _ (sq-cong (⊖-left _ _ z (e .rational)))));
       }
 
-  pub at-least-same : AtLeast x z → AtLeast y z
-  at-least-same (over h) = over (≼-trans (sx .rational) (≈→≽ _ _ (e .rational)) h)
-  at-least-same (squared h) =
+  pub above-same : x √≼ z → y √≼ z
+  above-same (over h) = over (≼-trans (sx .rational) (≈→≽ _ _ (e .rational)) h)
+  above-same (squared h) =
       squared
       (≼-trans gaps (≈→≽ _ _ (sq-cong (⊖-left _ _ z (e .rational)))) (≼-trans (square-proper sx) h (≈→≼ _ _ (e .square))))
-
-module _ {x y : Exact} {n : ℕ} (sx : Sound x) (sy : Sound y) (e : Same x y) where
-  pub within-same : {margin : ℕ} → Within margin x n → Within margin y n
-  within-same w =
-      record {
-        enough = at-least-same sx e (whole n) (whole-proper n) (w .enough);
-        close = λ z d h. w .close z d (at-least-same sy (same-sym e) z d h);
-      }
-
-  pub least-same : Least x n → Least y n
-  least-same w =
-      record {
-        enough = at-least-same sx e (whole n) (whole-proper n) (w .enough);
-        least = λ m h. w .least m (at-least-same sy (same-sym e) (whole m) (whole-proper m) h);
-      }

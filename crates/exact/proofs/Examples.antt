@@ -1,61 +1,73 @@
--- What the bands and the sums say of two exact numbers that are fractions: the bands of these fractions. So a comparison or a sum that nothing meets, or
--- that everything does, fails here.
+-- What the bands and the sums say of two exact numbers that are fractions, each the greatest of two: the bands of these
+-- fractions. So a comparison or a sum that nothing meets, or that everything does, fails here.
 use Prim.Native.Nat.{ℕ, _+_, _≤_, _<_}
 use mathlib.Core.List.{List, [], _∷_, Forall₂, Forall₂·nil, Forall₂·cons}
 use native.Mathlib.Omega.{arith}
 use lib.Dec.{lit≤}
-use Rattle.exact.specs.Fraction.{Fraction, _//_, whole, _⊕_, _⊖_, _·_, _≼_, Proper}
-use Rattle.exact.specs.Number.{Exact, square, AtMost, AtLeast, over, squared, Within, Sound}
-use Rattle.exact.specs.Sum.{Term, Low, High, total, NeverBelow, LessAbove, ExcessBelow}
+use Rattle.exact.specs.Fraction.{Fraction, _//_, whole, _⊕_, _⊖_, _·_, _≼_}
+use Rattle.exact.specs.Rooted.{Rooted, square, over, squared}
+use Rattle.exact.specs.Number.{none, also, this, later, Exact, Sound, AtMost, AtLeast, Within}
+use Rattle.exact.specs.Sum.{Term, Low, High, total, ExcessBelow}
 use Rattle.exact.proofs.Arithmetic.{//-proper, whole-proper}
-use Rattle.exact.proofs.Compare.{ordered}
+use Rattle.exact.proofs.Greatest.{ordered}
 
--- 3 − √4, which is 1; and 5/2
-abbrev rooted : Exact
-rooted = record { rational = whole 3; factor = whole 1; radicand = whole 4 }
+-- the greatest of 3 − √4 and 1/2, which is 1; and that of 1/3 and 5/2
+abbrev root : Rooted
+root = record { rational = whole 3; factor = whole 1; radicand = whole 4 }
 
-abbrev plain : Exact
-plain = record { rational = 5 // 2; factor = whole 0; radicand = whole 0 }
+abbrev fraction : Fraction → Rooted
+fraction x = record { rational = x; factor = whole 0; radicand = whole 0 }
 
-rooted-sound : Sound rooted
-rooted-sound = record { rational = whole-proper 3; factor = whole-proper 1; radicand = whole-proper 4 }
+abbrev one : Exact
+one = root ∷ fraction (1 // 2) ∷ []
 
-rooted-most : AtMost (whole 1) rooted
+abbrev other : Exact
+other = fraction (1 // 3) ∷ fraction (5 // 2) ∷ []
+
+one-sound : Sound one
+one-sound =
+    record {
+      each =
+          also (record { rational = whole-proper 3; factor = whole-proper 1; radicand = whole-proper 4 })
+          (also (record { rational = //-proper 1 2 (omega arith); factor = whole-proper 0; radicand = whole-proper 0 }) none);
+    }
+
+one-most : AtMost (whole 1) one
 unfolding whole _//_ _⊖_ _·_ square
-rooted-most = record { under = record { cross = lit≤ tt }; squared = record { cross = lit≤ tt } }
+one-most = record { some = this (record { under = record { cross = lit≤ tt }; squared = record { cross = lit≤ tt } }) }
 
-rooted-least : AtLeast rooted (whole 1)
+one-least : AtLeast one (whole 1)
 unfolding whole _//_ _⊖_ _·_ square
-rooted-least = squared (record { cross = lit≤ tt })
+one-least = record { each = also (squared (record { cross = lit≤ tt })) (also (over (record { cross = lit≤ tt })) none) }
 
-plain-most : AtMost (5 // 2) plain
+other-most : AtMost (5 // 2) other
 unfolding whole _//_ _⊖_ _·_ square
-plain-most = record { under = record { cross = lit≤ tt }; squared = record { cross = lit≤ tt } }
+other-most = record { some = later (this (record { under = record { cross = lit≤ tt }; squared = record { cross = lit≤ tt } })) }
 
-plain-least : AtLeast plain (5 // 2)
+other-least : AtLeast other (5 // 2)
 unfolding _//_
-plain-least = over (record { cross = lit≤ tt })
+other-least = record { each = also (over (record { cross = lit≤ tt })) (also (over (record { cross = lit≤ tt })) none) }
 
-pub within-example : (margin n : ℕ) → Within margin rooted n → (1 ≤ n) × (n < 1 + margin)
+pub within-example : (margin n : ℕ) → Within margin one n → (1 ≤ n) × (n < 1 + margin)
 unfolding whole _//_ _⊕_
 within-example margin n h =
-    let low : whole 1 ≼ whole n = ordered rooted-sound (whole-proper 1) (whole-proper n) rooted-most (h .enough) in
-    let high : _ = h .close (whole 1) (whole-proper 1) rooted-least in
+    let low : whole 1 ≼ whole n = ordered one-sound (whole-proper 1) (whole-proper n) one-most (h .enough) in
+    let high : _ = h .close (whole 1) (whole-proper 1) one-least in
     (omega (arith, low .cross), omega (arith, high .cross))
 
 -- 1 with an arm of 3, and 5/2 with an arm of 2: the sum is 8
 abbrev terms : List Term
-terms = record { exact = rooted; arm = 3 } ∷ record { exact = plain; arm = 2 } ∷ []
+terms = record { exact = one; arm = 3 } ∷ record { exact = other; arm = 2 } ∷ []
 
 lows : Forall₂ Low (whole 1 ∷ 5 // 2 ∷ []) terms
 lows =
-    Forall₂·cons (record { proper = whole-proper 1; atMost = rooted-most })
-    (Forall₂·cons (record { proper = //-proper 5 2 (omega arith); atMost = plain-most }) Forall₂·nil)
+    Forall₂·cons (record { proper = whole-proper 1; atMost = one-most })
+    (Forall₂·cons (record { proper = //-proper 5 2 (omega arith); atMost = other-most }) Forall₂·nil)
 
 highs : Forall₂ High (whole 1 ∷ 5 // 2 ∷ []) terms
 highs =
-    Forall₂·cons (record { proper = whole-proper 1; atLeast = rooted-least })
-    (Forall₂·cons (record { proper = //-proper 5 2 (omega arith); atLeast = plain-least }) Forall₂·nil)
+    Forall₂·cons (record { proper = whole-proper 1; atLeast = one-least })
+    (Forall₂·cons (record { proper = //-proper 5 2 (omega arith); atLeast = other-least }) Forall₂·nil)
 
 pub excess-example : (reported excess : ℕ) → ExcessBelow terms reported excess → (8 ≤ reported) × (reported < 8 + excess)
 unfolding whole _//_ _⊕_ _·_ total

@@ -2,6 +2,8 @@ pub mod Bools
 pub mod Order
 pub mod Arithmetic
 pub mod Compare
+pub mod Lists
+pub mod Greatest
 pub mod Examples
 pub mod Ceiling
 pub mod Sums

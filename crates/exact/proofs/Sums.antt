@@ -5,11 +5,11 @@ use native.Mathlib.Omega.{arith}
 use native.Mathlib.Nat.{lt-irrefl, mul-le-mul-right, mul-lt-mul-of-pos-right, mul-pos}
 use lib.ListN.{length}
 use Rattle.exact.specs.Fraction.{Fraction, _//_, whole, _⊕_, _·_, _≼_, _≺_, Proper}
-use Rattle.exact.specs.Number.{Within, Sound}
+use Rattle.exact.specs.Number.{Sound, Within}
 use Rattle.exact.specs.Sum.{Term, Low, High, total, weighted, arms, NeverBelow, LessAbove, ExcessBelow}
 use Rattle.exact.proofs.Order.{≼-refl, ≺→≼}
 use Rattle.exact.proofs.Arithmetic.{·-proper, ⊕-proper, whole-proper}
-use Rattle.exact.proofs.Compare.{ordered}
+use Rattle.exact.proofs.Greatest.{ordered}
 
 -- n stands for the term: it lies in the band, and the arm is not 0
 pub record Reported (margin n : ℕ) (t : Term) : Type 0 where

@@ -3,7 +3,7 @@ use Prim.Native.Nat.{ℕ, _+_, _*_}
 use mathlib.Core.Path.{_≡_, ap, subst₂}
 use native.Mathlib.Omega.{arith}
 use Rattle.exact.specs.Fraction.{Fraction, _//_, whole, _⊕_, _·_}
-use Rattle.exact.specs.Number.{Exact, square, Same}
+use Rattle.exact.specs.Rooted.{Rooted, square, Same}
 use Rattle.exact.specs.Surd.{Surd, number}
 
 -- the value of x is n / d
@@ -42,7 +42,7 @@ rescale c h = let h1 : _ = ap (λ (z : ℕ). z * c) (h .cross) in omega arith
 pub re-is : {x : Fraction} {n d n′ d′ : ℕ} → n ≡ n′ → d ≡ d′ → Is x n d → Is x n′ d′
 re-is {x} h g i = subst₂ (λ (n d : ℕ). Is x n d) h g i
 
--- an exact number is that of whole numbers
-pub is-number : (x : Exact) (w : Surd) → Is (x .rational) (w .num) (w .den) → Is (square x) (w .radicand) (w .den * w .den) → Same x (number w)
+-- a number with a root is that of whole numbers
+pub is-number : (x : Rooted) (w : Surd) → Is (x .rational) (w .num) (w .den) → Is (square x) (w .radicand) (w .den * w .den) → Same x (number w)
 unfolding number square _//_ _·_
 is-number x w h g = record { rational = omega arith; square = omega arith }

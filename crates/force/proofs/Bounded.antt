@@ -4,17 +4,18 @@ use mathlib.Core.Logic.{⊎-elim}
 use Prim.Native.Nat.{ℕ, _+_, _-_, _*_, _≤_, _<_}
 use native.Mathlib.Omega.{arith}
 use native.Mathlib.Nat.{mul-le-mul-left, eq-zero-or-pos}
-use Rattle.exact.specs.Number.{Least}
+use Rattle.exact.specs.Number.{only, Least}
 use Rattle.exact.specs.Surd.{number}
-use Rattle.exact.proofs.Compare.{same-sym, least-same}
-use Rattle.exact.proofs.Surds.{number-sound}
+use Rattle.exact.proofs.Compare.{same-sym}
+use Rattle.exact.proofs.Greatest.{least-same}
+use Rattle.exact.proofs.Surds.{number-defined}
 use Rattle.model.specs.declared.Legs.{Legs}
 use Rattle.model.specs.declared.Areas.{Areas}
 use Rattle.model.specs.Areas.{solid}
-use Rattle.model.specs.Force.{exact}
+use Rattle.model.specs.Force.{faceForce}
 use Rattle.model.specs.WholeForm.{grossOf, incidenceDen, incidenceNum, faceDen, faceNum, rootNum, wholeForm}
-use Rattle.model.proofs.WholeForm.{exact-whole}
-use Rattle.model.proofs.ExactForce.{den-positive, exact-sound}
+use Rattle.model.proofs.WholeForm.{face-whole}
+use Rattle.model.proofs.FaceForce.{den-positive, face-defined}
 use Rattle.rounding.specs.Bounds.{Between, Decides}
 use Rattle.rounding.proofs.Deciding.{decides, none-missing}
 use Rattle.force.specs.Prepared.{rootSquare}
@@ -49,11 +50,11 @@ high-square k i more p u R h = omega arith
 
 module _ (k i sum c d p u R low high f : ℕ) (b : Between sum (p * u * (p * u) * (R * 1_000_000_000_000)) low high)
     (t : Decides k i low high d c f) (z : 0 < d) where
-  least-bounded : Least (number (record {
+  least-bounded : Least (only (number (record {
     num = k * (i * sum + c * d);
     radicand = k * i * 1_000_000 * p * u * (k * i * 1_000_000 * p * u) * R;
     den = d * 1_000_000_000_000_000;
-  })) f
+  }))) f
   least-bounded =
       let less : ℕ = sum - high in
       let more : ℕ = sum - low in
@@ -65,10 +66,10 @@ module _ (k i sum c d p u R low high f : ℕ) (b : Between sum (p * u * (p * u) 
 
 -- of a section's numbers
 module _ (l : Legs) (k factor q : ℕ) (a : Areas) (e items : ℕ) (hs : 0 < solid a .0) where
-  whole-exact : (f : ℕ) → Least (number (wholeForm l k factor q a e items)) f → Least (exact l k factor q (grossOf a e) a items) f
+  whole-exact : (f : ℕ) → Least (only (number (wholeForm l k factor q a e items))) f → Least (only (faceForce l k factor q (grossOf a e) a items)) f
   whole-exact f h =
-      least-same (number-sound _ (den-positive l k factor q a e items hs)) (exact-sound l k factor q (grossOf a e) a items (omega arith) hs)
-      (same-sym (exact-whole l k factor q a e items)) h
+      least-same (number-defined _ (den-positive l k factor q a e items hs)) (face-defined l k factor q (grossOf a e) a items (omega arith) hs)
+      (same-sym (face-whole l k factor q a e items)) h
 
   -- the face's sum and the divisor that code works out
   module _ (sum d : ℕ) (es : sum ≡ faceNum l a e * 1_000_000) (ed : d ≡ incidenceDen l (solid a .0) e * faceDen l (solid a .0 + e)) where
@@ -81,7 +82,7 @@ module _ (l : Legs) (k factor q : ℕ) (a : Areas) (e items : ℕ) (hs : 0 < sol
 
     pub bounded-exact : (factored inc low high f : ℕ) → factored ≡ q * factor → inc ≡ incidenceNum l k a e
         → Between sum (rootSquare l a e) low high → Decides factored inc low high d items f
-        → Least (exact l k factor q (grossOf a e) a items) f
+        → Least (only (faceForce l k factor q (grossOf a e) a items)) f
     unfolding rootSquare
     bounded-exact factored inc low high f el ei b t =
         let g : _ = least-bounded factored inc sum items d (a .supercritical .0) (solid a .0 + e) (rootNum l (solid a .0) e) low high f b t divisor-above in
@@ -91,6 +92,6 @@ module _ (l : Legs) (k factor q : ℕ) (a : Areas) (e items : ℕ) (hs : 0 < sol
         whole-exact f (rw (n, m, w) at g)
 
   -- no pressure, no force
-  pub none-exact : q * factor ≡ 0 → Least (exact l k factor q (grossOf a e) a items) 0
+  pub none-exact : q * factor ≡ 0 → Least (only (faceForce l k factor q (grossOf a e) a items)) 0
   unfolding wholeForm
   none-exact z = whole-exact 0 (none-missing (wholeForm l k factor q a e items) (den-positive l k factor q a e items hs) (rw z (omega arith)))

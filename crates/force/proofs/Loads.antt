@@ -1,20 +1,19 @@
 -- A section that fits under its ice: its areas and the force on it.
-use Prim.Native.Nat.{ℕ, _-_, _≤_, _<_}
-use mathlib.Core.Path.{_≡_, subst}
+use Prim.Native.Nat.{ℕ, _≤_, _<_}
+use mathlib.Core.Path.{_≡_}
 use mathlib.Core.Bool.{true}
 use Rattle.units.specs.declared.Length.{Length}
 use Rattle.units.specs.declared.Area.{Area}
-use Rattle.exact.specs.Number.{Least}
+use Rattle.exact.specs.Number.{only, Least}
 use Rattle.model.specs.declared.Legs.{Legs}
 use Rattle.model.specs.declared.Section.{Section}
 use Rattle.model.specs.declared.Areas.{Areas}
 use Rattle.model.specs.Tower.{sectionOf}
 use Rattle.model.specs.Areas.{areasOf, solid, gross}
-use Rattle.model.specs.Force.{exact, exactForce}
-use Rattle.model.specs.WholeForm.{grossOf}
+use Rattle.model.specs.Force.{faceForce, formula}
 use Rattle.model.proofs.Solid.{solid-of}
 use Rattle.model.proofs.Sections.{SectionFacts, section-facts, solid-positive}
-use Rattle.model.proofs.Forces.{opened}
+use Rattle.model.proofs.LesserWinds.{Stands}
 use Rattle.areas.specs.Fits.{fitsUnder}
 use Rattle.areas.proofs.Fits.{UnderFacts, under-facts}
 
@@ -33,13 +32,17 @@ module _ (t : Length) (q : ℕ) (s : Section) (h : fitsUnder t s ≡ true) where
         under .solid,
       )
 
--- the force of the section is that of its areas
-pub section-least : (l : Legs) (k : ℕ) (t : Length) (factor : ℕ) (s : Section) (q items : ℕ) (a : Areas) (u : Area) (n : ℕ)
-    → a ≡ areasOf t q (sectionOf s .groups) → u ≡ gross (sectionOf s) → solid a .0 ≤ u .0
-    → Least (exact l k factor q (grossOf a (u .0 - solid a .0)) a items) n
-    → Least (exactForce l k t factor (sectionOf s) q items) n
-unfolding exactForce
-section-least l k t factor s q items a u n ea eu h g =
-    let f : Least (exact l k factor q u a items) n =
-    subst (λ (x : Area). Least (exact l k factor q x a items) n) (opened a u h) g in
-    rw (← ea, ← eu) f
+-- the formula of the section is that of its areas
+pub formula-least : (l : Legs) (k : ℕ) (t : Length) (factor : ℕ) (s : Section) (q items : ℕ) (a : Areas) (u : Area) (n : ℕ)
+    → a ≡ areasOf t q (sectionOf s .groups) → u ≡ gross (sectionOf s) → Least (only (faceForce l k factor q u a items)) n
+    → Least (only (formula l k t factor (sectionOf s) items q)) n
+unfolding formula
+formula-least l k t factor s q items a u n ea eu g = rw (← ea, ← eu) g
+
+-- 0 < A_S ≤ A_u, of the section alone
+pub stands : (t : Length) (s : Section) → fitsUnder t s ≡ true → Stands t (sectionOf s)
+stands t s h =
+    record {
+      solid = solid-positive t (sectionOf s .groups) (section-known t 0 s h .count .low) (section-known t 0 s h .groups);
+      under = under t 0 s h .solid;
+    }

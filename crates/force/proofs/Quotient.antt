@@ -5,18 +5,19 @@ use mathlib.Core.Bool.{true}
 use native.Mathlib.Omega.{arith}
 use native.Mathlib.Nat.{mul-le-mul, mul-le-mul-left, le-trans, lt-of-le-of-lt}
 use borrow.Author.Tests.{leb-true}
-use Rattle.exact.specs.Number.{Least}
+use Rattle.exact.specs.Number.{only, Least}
 use Rattle.exact.specs.Surd.{number, reaches}
-use Rattle.exact.proofs.Compare.{same-sym, least-same}
-use Rattle.exact.proofs.Surds.{number-sound}
+use Rattle.exact.proofs.Compare.{same-sym}
+use Rattle.exact.proofs.Greatest.{least-same}
+use Rattle.exact.proofs.Surds.{number-defined}
 use Rattle.model.specs.declared.Legs.{Legs}
 use Rattle.model.specs.declared.Legs.the-variants.{Three, Four}
 use Rattle.model.specs.declared.Areas.{Areas}
 use Rattle.model.specs.Areas.{solid, largestGross}
-use Rattle.model.specs.Force.{largestItems, exact}
+use Rattle.model.specs.Force.{largestItems, faceForce, largestForce}
 use Rattle.model.specs.WholeForm.{grossOf, incidenceDen, incidenceNum, faceDen, faceNum, rootNum, wholeForm}
-use Rattle.model.proofs.WholeForm.{exact-whole}
-use Rattle.model.proofs.ExactForce.{den-positive, exact-sound}
+use Rattle.model.proofs.WholeForm.{face-whole}
+use Rattle.model.proofs.FaceForce.{den-positive, face-defined}
 use Rattle.model.proofs.Bounds.{num-bound}
 use Rattle.wide.specs.declared.U256.{U256}
 use Rattle.wide.specs.declared.U512.{U512}
@@ -68,8 +69,8 @@ module _ (l : Legs) (k factor q : ℕ) (a : Areas) (e items : ℕ) where
       mul-le-mul {n₂ = 2 ^ 63} {m₂ = 2 ^ 67} (incidence-den-bound l (solid a .0) e hu) (face-den-bound l (solid a .0 + e) hu) in
       let d : incidenceDen l (solid a .0) e * faceDen l (solid a .0 + e) * 1_000_000_000_000_000 ≤ 2 ^ 63 * 2 ^ 67 * 1_000_000_000_000_000 =
       mul-le-mul {n₂ = 2 ^ 63 * 2 ^ 67} {m₂ = 1_000_000_000_000_000} h (leb-true 1_000_000_000_000_000 1_000_000_000_000_000 refl) in
-      lt-of-le-of-lt (le-trans (num-bound l k factor q a e items hu hq hf hi) (mul-le-mul-left (2 ^ 27) d))
-      (leb-true (2 ^ 27 * (2 ^ 63 * 2 ^ 67 * 1_000_000_000_000_000) + 1) (2 ^ 256) refl)
+      lt-of-le-of-lt (le-trans (num-bound l k factor q a e items hu hq hf hi) (mul-le-mul-left largestForce d))
+      (leb-true (largestForce * (2 ^ 63 * 2 ^ 67 * 1_000_000_000_000_000) + 1) (2 ^ 256) refl)
 
   pub radicand-of : (factored inc : ℕ) → factored ≡ q * factor → inc ≡ incidenceNum l k a e
       → factored * inc * 1_000_000 * a .supercritical .0 * (solid a .0 + e) * (factored * inc * 1_000_000 * a .supercritical .0 * (solid a .0 + e)) * rootNum l (solid a .0) e
@@ -93,11 +94,11 @@ module _ (l : Legs) (k factor q : ℕ) (a : Areas) (e items : ℕ) where
     pub den-above : 0 < value256 d
     den-above = rw ed (den-positive l k factor q a e items hs)
 
-    pub most-reaches : solid a .0 + e ≤ largestGross → q ≤ 5000 → factor ≤ 2000 → items ≤ largestItems → reaches (surd n d m) (2 ^ 27) ≡ true
-    most-reaches hu hq hf hi = rw surd-is (whole-reaches _ (2 ^ 27) (num-bound l k factor q a e items hu hq hf hi))
+    pub most-reaches : solid a .0 + e ≤ largestGross → q ≤ 5000 → factor ≤ 2000 → items ≤ largestItems → reaches (surd n d m) largestForce ≡ true
+    most-reaches hu hq hf hi = rw surd-is (whole-reaches _ largestForce (num-bound l k factor q a e items hu hq hf hi))
 
-    pub least-exact : (f : ℕ) → Least (number (surd n d m)) f → Least (exact l k factor q (grossOf a e) a items) f
+    pub least-exact : (f : ℕ) → Least (only (number (surd n d m))) f → Least (only (faceForce l k factor q (grossOf a e) a items)) f
     least-exact f h =
         let p : _ = den-positive l k factor q a e items hs in
-        let g : Least (number (wholeForm l k factor q a e items)) f = rw surd-is at h in
-        least-same (number-sound _ p) (exact-sound l k factor q (grossOf a e) a items (omega arith) hs) (same-sym (exact-whole l k factor q a e items)) g
+        let g : Least (only (number (wholeForm l k factor q a e items))) f = rw surd-is at h in
+        least-same (number-defined _ p) (face-defined l k factor q (grossOf a e) a items (omega arith) hs) (same-sym (face-whole l k factor q a e items)) g

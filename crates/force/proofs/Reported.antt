@@ -1,36 +1,31 @@
--- What follows from the promises of `section_load` and `item_sums`: the force is in the band and at most 2²⁷ newtons,
--- it is the same for the same legs, section, items in any order and wind, and it is the report's. `Loaded` and `Summed`
+-- What follows from the promises of `section_load` and `item_sums`: the force is in the band and at most the
+-- largest, it is the same for the same legs, section, items in any order and wind, and it is the report's. `Loaded` and `Summed`
 -- are the functions' own contracts, of the values handed over and handed back.
-use Prim.Native.Nat.{ℕ, _-_, _^_, _≤_, _<_}
-use mathlib.Core.Path.{_≡_, refl, ap, sym, subst, _∙_}
+use Prim.Native.Nat.{ℕ, _≤_, _<_}
+use mathlib.Core.Path.{_≡_, ap, sym, subst, _∙_}
 use mathlib.Core.Bool.{true}
 use mathlib.Core.List.{List, List·Permᴰ}
-use native.Mathlib.Omega.{arith}
 use borrow.Author.Tests.{le-leb}
 use lib.ListN.{length, take, getD}
 use Rattle.units.specs.declared.Length.{Length}
-use Rattle.units.specs.declared.Area.{Area}
-use Rattle.exact.specs.Fraction.{whole}
-use Rattle.exact.specs.Number.{AtMost, AtLeast, Within, Least, Sound}
+use Rattle.exact.specs.Number.{Sound, Within, Least}
 use Rattle.exact.proofs.Ceiling.{least-unique, ceiling-least, least-within}
 use Rattle.model.specs.declared.Legs.{Legs}
 use Rattle.model.specs.declared.Section as stored
 use Rattle.model.specs.declared.Item.{Item}
-use Rattle.model.specs.declared.Areas.{Areas}
 use Rattle.model.specs.Tower.{Section, Tower, Wind, sectionOf}
-use Rattle.model.specs.Areas.{thickness, areasOf, solid, solidOf, gross, largestGross}
-use Rattle.model.specs.Force.{itemSum, largestItems, exact, exactForce}
+use Rattle.model.specs.Areas.{thickness, areasOf, solidOf, gross}
+use Rattle.model.specs.Force.{itemSum, largestItems, exactForce, largestForce}
 use Rattle.model.specs.Report.{sectionAt, pressureAt, areasAt, exactAt, forceAt}
 use Rattle.model.specs.Valid.{sectionFits, ValidWind}
 use Rattle.model.proofs.Lists.{sumBy-perm}
-use Rattle.model.proofs.ExactForce.{exact-sound, exact-nonneg}
+use Rattle.model.proofs.LesserWinds as winds
 use Rattle.exact.proofs.Bools.{and-join}
-use Rattle.model.proofs.Bounds.{exact-bound}
 use Rattle.model.proofs.Sections.{gross-bound}
-use Rattle.model.proofs.Forces.{opened, fits-at, ice-at, solid-under}
+use Rattle.model.proofs.Forces.{fits-at, ice-at, solid-under}
 use Rattle.force.specs.declared.Load.{Load}
 use Rattle.areas.specs.Fits.{fitsUnder}
-use Rattle.force.proofs.Loads.{section-known, solid-known}
+use Rattle.force.proofs.Loads.{section-known, stands}
 use Rattle.force.proofs.section.section_load.Reads as load-reads
 use Rattle.areas.proofs.items.item_sums.Reads as sum-reads
 
@@ -43,37 +38,18 @@ Summed t items held sums = sum-reads.Post tt (t, (items, (held, tt))) sums (t, (
 
 -- exact ≤ force < exact + 1, and so within every wider band: document 01's is 2
 module _ (l : Legs) (k : ℕ) (t : Length) (factor : ℕ) (s : stored.Section) (q items : ℕ) (h : fitsUnder t s ≡ true) where
-  solid-in : (0 < solid (areasOf t q (sectionOf s .groups)) .0) × (solid (areasOf t q (sectionOf s .groups)) .0 ≤ gross (sectionOf s) .0)
-  solid-in = solid-known t q s h (areasOf t q (sectionOf s .groups)) (gross (sectionOf s)) refl refl
-
   pub force-sound : Sound (exactForce l k t factor (sectionOf s) q items)
-  unfolding exactForce
-  force-sound = exact-sound l k factor q _ _ items (omega (arith, solid-in)) (solid-in .0)
+  force-sound = winds.force-sound l k t factor (sectionOf s) items (stands t s h) q
 
-  force-nonneg : AtMost (whole 0) (exactForce l k t factor (sectionOf s) q items)
-  unfolding exactForce
-  force-nonneg =
-      let a : Areas = areasOf t q (sectionOf s .groups) in
-      let u : Area = gross (sectionOf s) in
-      subst (λ (x : Area). AtMost (whole 0) (exact l k factor q x a items)) (opened a u (solid-in .1))
-      (exact-nonneg l k factor q a (u .0 - solid a .0) items (solid-in .0))
-
-  force-reached : factor ≤ 2000 → q ≤ 5000 → items ≤ largestItems → AtLeast (exactForce l k t factor (sectionOf s) q items) (whole (2 ^ 27))
-  unfolding exactForce
-  force-reached hf hq hi =
-      let a : Areas = areasOf t q (sectionOf s .groups) in
-      let u : Area = gross (sectionOf s) in
-      let g : u .0 ≤ largestGross = gross-bound (sectionOf s) (section-known t q s h) in
-      subst (λ (x : Area). AtLeast (exact l k factor q x a items) (whole (2 ^ 27))) (opened a u (solid-in .1))
-      (exact-bound l k factor q a (u .0 - solid a .0) items (solid-in .0) (omega (arith, solid-in .1)) hq hf hi)
-
-  -- the force is at most 2²⁷ newtons
-  pub force-small : factor ≤ 2000 → q ≤ 5000 → items ≤ largestItems → {n : ℕ} → Least (exactForce l k t factor (sectionOf s) q items) n → n ≤ 2 ^ 27
-  force-small hf hq hi g = g .least (2 ^ 27) (force-reached hf hq hi)
+  -- the force is at most `largestForce`
+  pub force-small : factor ≤ 2000 → q ≤ 5000 → items ≤ largestItems → {n : ℕ} → Least (exactForce l k t factor (sectionOf s) q items) n → n ≤ largestForce
+  force-small hf hq hi g =
+      g .least largestForce
+      (winds.force-bound l k t factor (sectionOf s) items (stands t s h) (gross-bound (sectionOf s) (section-known t q s h)) hf hi q hq)
 
   pub load-within : {r : Load} → Loaded l k t factor s q items r → (margin : ℕ) → 0 < margin
       → Within margin (exactForce l k t factor (sectionOf s) q items) (r .force .0)
-  load-within p margin m = least-within force-sound force-nonneg margin _ m (p .1)
+  load-within p margin m = least-within force-sound (winds.force-nonneg l k t factor (sectionOf s) items (stands t s h) q) margin _ m (p .1)
 
 -- two calls with the same legs, section, wind and items, these in any order
 module _ (l : Legs) (k : ℕ) (t : Length) (factor q i : ℕ) (h : i < 32) (s s′ : stored.Section) (e : sectionOf s ≡ sectionOf s′)
@@ -107,4 +83,4 @@ module _ (t : Tower) (w : Wind) (i : ℕ) (s : stored.Section) (e : sectionOf s 
   load-reported h {n} {r} k p =
       let d : Sound (exactAt t w i) = rw (← e, ← k) (force-sound _ _ _ _ s _ n h) in
       let g : Least (exactAt t w i) (r .force .0) = rw (← e, ← k) (p .1) in
-      (rw (← e) (p .0), ap (λ (n : ℕ). record { 0 = n }) (least-unique g (ceiling-least (exactAt t w i) (d .rational))))
+      (rw (← e) (p .0), ap (λ (n : ℕ). record { 0 = n }) (least-unique g (ceiling-least d)))

@@ -1,9 +1,9 @@
 // The least whole number of newtons that is not below the exact force of a face with these areas.
 ghost use mathlib.Core.Path.{_≡_};
 ghost use Prim.Native.Nat.{_+_, _*_, _^_, _<_, _≤_};
-ghost use Rattle.exact.specs.Number.{Least};
+ghost use Rattle.exact.specs.Number.{only, Least};
 ghost use Rattle.model.specs.Areas.{solid, largestGross};
-ghost use Rattle.model.specs.Force.{largestItems, exact};
+ghost use Rattle.model.specs.Force.{largestItems, faceForce};
 ghost use Rattle.model.specs.WholeForm.{grossOf, rootNum};
 ghost use Rattle.force.specs.Prepared.{TermsOf};
 ghost use Rattle.wide.specs.Value.{value128, value256, value512};
@@ -11,14 +11,12 @@ use crate::Terms;
 use crate::face::Root;
 use model::Areas;
 use model::Legs;
+use model::ranges::LARGEST_FORCE;
 use units::Area;
 use units::Force;
 use wide::U128;
 use wide::U256;
 use wide::U512;
-
-// No exact force is above 2²⁷ N.
-const MOST: u64 = 0x800_0000;
 
 // `factored` is the factored pressure q times structure factor, in thousandths of N/m².
 // factored · (incidence · face + items · divisor)
@@ -80,12 +78,12 @@ pub(crate) fn least_force(
 ) -> Force
     requires { ⌜ (0 < solid a .0) × (solid a .0 + gap .0 ≤ largestGross) × (factor ≤ 2000) × (q ≤ 5000) × (items ≤ largestItems) ⌝ }
     requires { ⌜ TermsOf legs k a (gap .0) x ⌝ }
-    ensures { λ r. ⌜ Least (exact legs k factor q (grossOf a (gap .0)) a items) (r .0) ⌝ }
+    ensures { λ r. ⌜ Least (only (faceForce legs k factor q (grossOf a (gap .0)) a items)) (r .0) ⌝ }
 {
     let e = gap.0;
     let factored = (q as u64) * (factor as u64);
     let n = numerator(factored, x.incidence, x.face, items, x.divisor);
     let d = denominator(x.divisor);
     let m = radicand(legs, factored, x.incidence, a, e);
-    Force(rounding::ceiling::ceiling(n, d, m, MOST))
+    Force(rounding::ceiling::ceiling(n, d, m, LARGEST_FORCE))
 }

@@ -3,9 +3,9 @@
 ghost use mathlib.Core.Path.{_≡_};
 ghost use mathlib.Core.Bool.{true};
 ghost use Prim.Native.Nat.{_+_, _*_, _≤_, _<_};
-ghost use Rattle.exact.specs.Number.{Least};
+ghost use Rattle.exact.specs.Number.{only, Least};
 ghost use Rattle.model.specs.Areas.{solid, largestGross};
-ghost use Rattle.model.specs.Force.{largestItems, exact};
+ghost use Rattle.model.specs.Force.{largestItems, faceForce};
 ghost use Rattle.model.specs.WholeForm.{grossOf};
 ghost use Rattle.wide.specs.Value.{value128};
 ghost use Rattle.rounding.specs.Bounds.{Between, Decides};
@@ -95,7 +95,7 @@ fn compared(
 ) -> DecidedForce
     requires { ⌜ (0 < solid a .0) × (solid a .0 + gap .0 ≤ largestGross) × (factor ≤ 2000) × (q ≤ 5000) × (items ≤ largestItems) ⌝ }
     requires { ⌜ TermsOf legs k a (gap .0) x ⌝ }
-    ensures { λ r. ⌜ Least (exact legs k factor q (grossOf a (gap .0)) a items) (r .force .0) ⌝ }
+    ensures { λ r. ⌜ Least (only (faceForce legs k factor q (grossOf a (gap .0)) a items)) (r .force .0) ⌝ }
 {
     if a.supercritical.0 == 0 {
         let factored = (q as u64) * (factor as u64);
@@ -127,7 +127,7 @@ pub fn force_in(
 ) -> DecidedForce
     requires { ⌜ (0 < solid a .0) × (solid a .0 + gap .0 ≤ largestGross) × (factor ≤ 2000) × (q ≤ 5000) × (items ≤ largestItems) ⌝ }
     requires { ⌜ Prepared legs a (gap .0) p ⌝ }
-    ensures { λ r. ⌜ Least (exact legs k factor q (grossOf a (gap .0)) a items) (r .force .0) ⌝ }
+    ensures { λ r. ⌜ Least (only (faceForce legs k factor q (grossOf a (gap .0)) a items)) (r .force .0) ⌝ }
 {
     let factored = (q as u64) * (factor as u64);
     if factored == 0 {

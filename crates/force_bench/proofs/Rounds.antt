@@ -1,21 +1,17 @@
 -- The sum over the rounds, and the force of each.
-use Prim.Native.Nat.{ℕ, _+_, _-_, _%_, _^_, _<_, _≤_}
+use Prim.Native.Nat.{ℕ, _+_, _-_, _%_, _^_}
 use mathlib.Core.Path.{_≡_, refl}
-use native.Mathlib.Omega.{arith}
 use native.Mathlib.Numerals.{add-one}
 use native.Mathlib.Nat.{mod-add-mod}
-use Rattle.units.specs.declared.Length.{Length}
-use Rattle.units.specs.declared.Area.{Area}
 use Rattle.exact.specs.Number.{Exact, Least, Sound}
 use Rattle.exact.proofs.Ceiling.{least-unique, ceiling-least}
-use Rattle.model.specs.declared.Areas.{Areas}
 use Rattle.model.specs.Lists.{sumTo}
 use Rattle.model.specs.Tower.{sectionOf}
-use Rattle.model.specs.Areas.{thickness, areasOf, solid, gross}
+use Rattle.model.specs.Areas.{thickness}
 use Rattle.model.specs.File.{legsOf}
 use Rattle.model.specs.Force.{exactForce}
-use Rattle.model.proofs.ExactForce.{exact-sound}
-use Rattle.force.proofs.Loads.{solid-known}
+use Rattle.model.proofs.LesserWinds.{force-sound}
+use Rattle.force.proofs.Loads.{stands}
 use Rattle.case_words.specs.declared.Case.{Case}
 use Rattle.case_words.specs.Faults.{SoundCase}
 use Rattle.force_bench.specs.Words.{forceIn, totalOf}
@@ -33,15 +29,9 @@ module _ (c : Case) (items : ℕ) where
   exactIn q = exactForce (legsOf (c .legs)) (c .direction) (thickness (c .ice)) (c .factor) (sectionOf (c .section)) q items
 
   exact-known : SoundCase c → (q : ℕ) → Sound (exactIn q)
-  unfolding exactForce
-  exact-known h q =
-      let t : Length = thickness (c .ice) in
-      let a : Areas = areasOf t q (sectionOf (c .section) .groups) in
-      let u : Area = gross (sectionOf (c .section)) in
-      let s : (0 < solid a .0) × (solid a .0 ≤ u .0) = solid-known t q (c .section) (h .fits) a u refl refl in
-      exact-sound _ _ _ q u a items (omega (arith, s)) (s .0)
+  exact-known h q = force-sound (legsOf (c .legs)) (c .direction) (thickness (c .ice)) (c .factor) (sectionOf (c .section)) items (stands (thickness (c .ice)) (c .section) (h .fits)) q
 
   -- the least whole number is the ceiling
   pub force-known : SoundCase c → (i n : ℕ) → Least (exactIn (c .pressure - i % 16)) n → n ≡ forceIn c items i
   unfolding forceIn
-  force-known h i n l = least-unique l (ceiling-least _ (exact-known h (c .pressure - i % 16) .rational))
+  force-known h i n l = least-unique l (ceiling-least (exact-known h (c .pressure - i % 16)))

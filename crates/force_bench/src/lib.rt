@@ -12,9 +12,10 @@ use case_words::faults::fault_of;
 use case_words::faults::groups_end;
 use force::section::section_load;
 use model::numbers::legs_of;
+use model::ranges::LARGEST_ITEM;
 
-// The largest sum of a section's items: 64 times coefficient 3, K 1 and 31 m².
-const LARGEST_ITEMS: u64 = 64 * 3000 * 1000 * 31_000_000;
+// The largest sum of a section's items.
+const LARGEST_ITEMS: u64 = 64 * LARGEST_ITEM;
 
 // The forces of so many rounds, modulo 2^64. Round i has the case's pressure less i % 16.
 fn total(c: Case, items: u64, rounds: u64) -> u64

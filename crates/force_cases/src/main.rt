@@ -20,7 +20,8 @@ use case_words::faults::groups_end;
 use case_words::items::items_of;
 use force::Load;
 use force::Way;
-use force::section::decided_load;
+use force::section::formula_load;
+use force::section::section_load;
 use libc::STDIN_FILENO;
 use libc::STDOUT_FILENO;
 use lines::Count;
@@ -86,10 +87,10 @@ fn answer_case(c: Case, items: [Item; 64], held: usize, out: &mut [u8]) -> Line
     let sum = sums[0];
     let legs = legs_of(c.legs);
     let s = c.section;
-    let d = decided_load(legs, c.direction, t, c.factor, s, c.pressure, sum);
-    let load = d.load;
+    let load = section_load(legs, c.direction, t, c.factor, s, c.pressure, sum);
     let length = put_load(out, load, sum);
-    let way = d.way;
+    let full = formula_load(legs, c.direction, t, c.factor, s, c.pressure, sum);
+    let way = full.way;
     let told = Told::Decided(way);
     Line { length, told }
 }

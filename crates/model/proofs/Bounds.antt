@@ -1,24 +1,24 @@
 -- The largest numbers: of an item's part, of a section's areas, of an exact force, of a shear and of a moment.
-use Prim.Native.Nat.{ℕ, _+_, _*_, _-_, _^_, _≤_, _<_}
+use Prim.Native.Nat.{ℕ, _+_, _*_, _-_, _≤_, _<_}
 use mathlib.Core.Path.{_≡_, refl}
 use mathlib.Core.Bool.{Bool, true, false, cond}
 use native.Mathlib.Omega.{arith}
 use native.Mathlib.Nat.{mul-le-mul, mul-le-mul-left, mul-le-mul-right}
 use lib.Dec.{leb}
 use Rattle.exact.specs.Fraction.{whole}
-use Rattle.exact.specs.Number.{AtLeast}
+use Rattle.exact.specs.Rooted.{_√≼_}
 use Rattle.exact.proofs.Arithmetic.{whole-proper}
-use Rattle.exact.proofs.Compare.{same-sym, at-least-same}
-use Rattle.exact.proofs.Surds.{number-sound, from-over}
+use Rattle.exact.proofs.Compare.{same-sym, above-same}
+use Rattle.exact.proofs.Surds.{number-defined, from-over}
 use Rattle.model.specs.declared.Legs.{Legs}
 use Rattle.model.specs.declared.Legs.the-variants.{Three, Four}
 use Rattle.model.specs.declared.Areas.{Areas}
 use Rattle.model.specs.Areas.{solid, largestGross}
-use Rattle.model.specs.Force.{halves, largestItems, exact}
+use Rattle.model.specs.Force.{halves, largestItems, faceForce, largestForce}
 use Rattle.model.specs.WholeForm.{grossOf, k2Num, rounds, incidenceDen, incidenceNum, faceDen, flatNum, subcriticalNum, supercriticalNum, faceNum, wholeForm}
 use Rattle.model.proofs.Coefficients.{quarters-bound}
-use Rattle.model.proofs.WholeForm.{exact-whole}
-use Rattle.model.proofs.ExactForce.{den-positive}
+use Rattle.model.proofs.WholeForm.{face-whole}
+use Rattle.model.proofs.FaceForce.{den-positive}
 
 pub cond-bound : (b : Bool) {x y n : ℕ} → x ≤ n → y ≤ n → cond b x y ≤ n
 cond-bound true h g = h
@@ -78,29 +78,29 @@ face-bound l a e =
     (flat-bound l (solid a .0) e) (sub-bound l (solid a .0) e) (super-bound l (solid a .0 + e)) (solid-is a)
 
 largest : (t turn f face S h items load : ℕ) → turn ≤ 2 * t → face ≤ 4 * f * S → h ≡ t * f → S ≤ largestGross → items ≤ largestItems → load ≤ 10_000_000
-    → load * (turn * face * 1_000_000 + items * h) ≤ 2 ^ 27 * (h * 1_000_000_000_000_000)
+    → load * (turn * face * 1_000_000 + items * h) ≤ largestForce * (h * 1_000_000_000_000_000)
 largest t turn f face S h items load ht hf eh hS hi hl =
     let a : turn * face ≤ 2 * t * (4 * f * S) = mul-le-mul ht hf in
     let b : 2 * t * (4 * f * S) ≡ 8 * (t * f * S) = omega arith in
     let c : t * f * S ≤ t * f * largestGross = mul-le-mul-left (t * f) hS in
     let d : items * (t * f) ≤ largestItems * (t * f) = mul-le-mul-right (t * f) hi in
-    let x : turn * face * 1_000_000 + items * (t * f) ≤ 7_152_000_000_000_000 * (t * f) = omega arith in
-    let y : load * (turn * face * 1_000_000 + items * (t * f)) ≤ 10_000_000 * (7_152_000_000_000_000 * (t * f)) = mul-le-mul hl x in
+    let x : turn * face * 1_000_000 + items * (t * f) ≤ (8_000_000 * largestGross + largestItems) * (t * f) = omega arith in
+    let y : load * (turn * face * 1_000_000 + items * (t * f)) ≤ 10_000_000 * ((8_000_000 * largestGross + largestItems) * (t * f)) = mul-le-mul hl x in
     rw eh (omega arith)
 
 module _ (l : Legs) (k factor q : ℕ) (a : Areas) (e items : ℕ) where
   pub num-bound : solid a .0 + e ≤ largestGross → q ≤ 5000 → factor ≤ 2000 → items ≤ largestItems
-      → wholeForm l k factor q a e items .num ≤ 2 ^ 27 * wholeForm l k factor q a e items .den
+      → wholeForm l k factor q a e items .num ≤ largestForce * wholeForm l k factor q a e items .den
   unfolding wholeForm
   num-bound hu hq hf hi =
       let load : q * factor ≤ 5000 * 2000 = mul-le-mul {n₂ = 5000} {m₂ = 2000} hq hf in
       largest (incidenceDen l (solid a .0) e) (incidenceNum l k a e) (faceDen l (solid a .0 + e)) (faceNum l a e) (solid a .0) _ items (q * factor)
       (incidence-bound l k a e) (face-bound l a e) refl (omega arith) hi load
 
-  -- an exact force is at most 2²⁷ newtons
-  pub exact-bound : 0 < solid a .0 → solid a .0 + e ≤ largestGross → q ≤ 5000 → factor ≤ 2000 → items ≤ largestItems
-      → AtLeast (exact l k factor q (grossOf a e) a items) (whole (2 ^ 27))
-  exact-bound hs hu hq hf hi =
+  -- the force on a face is at most `largestForce`
+  pub face-force-bound : 0 < solid a .0 → solid a .0 + e ≤ largestGross → q ≤ 5000 → factor ≤ 2000 → items ≤ largestItems
+      → faceForce l k factor q (grossOf a e) a items √≼ whole largestForce
+  face-force-bound hs hu hq hf hi =
       let d : _ = den-positive l k factor q a e items hs in
-      at-least-same (number-sound _ d) (same-sym (exact-whole l k factor q a e items)) (whole (2 ^ 27)) (whole-proper _)
-      (from-over _ d (2 ^ 27) (num-bound hu hq hf hi))
+      above-same (number-defined _ d) (same-sym (face-whole l k factor q a e items)) (whole largestForce) (whole-proper _)
+      (from-over _ d largestForce (num-bound hu hq hf hi))

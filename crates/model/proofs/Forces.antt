@@ -1,32 +1,30 @@
 -- The exact and the reported force of each section of a valid tower under a valid wind.
-use Prim.Native.Nat.{ℕ, _+_, _-_, _^_, _≤_, _<_}
-use mathlib.Core.Path.{_≡_, refl, ap, subst}
+use Prim.Native.Nat.{ℕ, _^_, _≤_, _<_}
+use mathlib.Core.Path.{_≡_, refl}
 use mathlib.Core.Bool.{Bool, true, false, cond, not}
 use native.Mathlib.Omega.{arith}
 use native.Mathlib.Nat.{mul-le-mul-right, le-trans}
 use lib.Dec.{ltb, eqb}
 use lib.ListN.{length}
 use borrow.Author.Tests.{ltb-false, eqb-true, not-false}
-use Rattle.units.specs.declared.Area.{Area}
 use Rattle.exact.specs.Fraction.{whole}
-use Rattle.exact.specs.Number.{AtMost, AtLeast, Within, Least, Sound}
+use Rattle.exact.specs.Number.{Sound, AtMost, AtLeast, Within, Least}
 use Rattle.exact.proofs.Ceiling.{ceiling-least, ceiling-within, ceiling-bound}
-use Rattle.model.specs.declared.Areas.{Areas}
 use Rattle.model.specs.declared.Item.{Item}
 use Rattle.model.specs.Lists.{allOf, anyOf}
 use Rattle.model.specs.Ranges.{within, sectionHeight, itemCount, iceClasses, structureFactor, pressures}
 use Rattle.model.specs.Tower.{Tower, Wind}
-use Rattle.model.specs.Areas.{thickness, gross, solidOf, solid, largestGross}
-use Rattle.model.specs.Force.{itemPart, itemSum, largestItem, largestItems, exact, exactForce}
-use Rattle.model.specs.WholeForm.{grossOf}
+use Rattle.model.specs.Areas.{thickness, gross, solidOf, solid}
+use Rattle.model.specs.Force.{itemPart, itemSum, largestItem, largestItems, largestForce}
 use Rattle.model.specs.Report.{noSection, sectionAt, pressureAt, heightAt, areasAt, exactAt, forceAt}
 use Rattle.model.specs.Machine.{refuseIf, directionFits, isTooSolid, windRules}
 use Rattle.model.specs.Valid.{sectionFits, itemFits, ValidTower, ValidWind}
 use Rattle.exact.proofs.Bools.{and-split}
 use Rattle.model.proofs.Lists.{sumBy-bound, all-at, none-at}
 use Rattle.model.proofs.Solid.{solid-of}
-use Rattle.model.proofs.ExactForce.{exact-sound, exact-nonneg}
-use Rattle.model.proofs.Bounds.{cond-bound, exact-bound}
+use Rattle.model.proofs.LesserWinds as winds
+use Rattle.model.proofs.LesserWinds.{Stands, force-sound, force-nonneg}
+use Rattle.model.proofs.Bounds.{cond-bound}
 use Rattle.model.proofs.Sections.{InRange, in-range, SectionFacts, section-facts, gross-bound, solid-positive, item-bound}
 
 -- a call that no rule turns down meets none of their conditions
@@ -76,10 +74,6 @@ items-bound t w i v h =
     let s : _ = sumBy-bound _ (itemFits (length (t .sections))) b one (t .items) (v .items) in
     le-trans s (mul-le-mul-right b (n .high))
 
--- the open area of a face
-pub opened : (a : Areas) (u : Area) → solid a .0 ≤ u .0 → grossOf a (u .0 - solid a .0) ≡ u
-opened a u h = let e : solid a .0 + (u .0 - solid a .0) ≡ u .0 = omega arith in ap (λ (n : ℕ). record { 0 = n }) e
-
 module _ (t : Tower) (w : Wind) (v : ValidWind t w) (i : ℕ) (h : i < length (t .sections)) where
   facts : WindFacts t w (eqb (length (w .pressures)) (length (t .sections))) 0
   facts = wind-facts t w _ 0 (v .accepted)
@@ -114,40 +108,33 @@ module _ (t : Tower) (w : Wind) (v : ValidWind t w) (i : ℕ) (h : i < length (t
         solid-under,
       )
 
+  pub stands-at : Stands (thickness (w .ice)) (sectionAt t i)
+  stands-at = record { solid = solid-positive _ _ (section-at .count .low) (section-at .groups); under = solid-under }
+
   pub sound-at : Sound (exactAt t w i)
-  unfolding exactAt exactForce areasAt
-  sound-at = exact-sound _ _ _ _ _ _ _ (omega (arith, solid-at)) (solid-at .0)
+  unfolding exactAt
+  sound-at = force-sound _ _ _ _ _ _ stands-at (pressureAt w i)
 
   pub nonneg-at : AtMost (whole 0) (exactAt t w i)
-  unfolding exactAt exactForce areasAt
-  nonneg-at =
-      let a : Areas = areasAt t w i in
-      let u : Area = gross (sectionAt t i) in
-      subst (λ (x : Area). AtMost (whole 0) (exact (t .legs) (w .direction) (w .factor) (pressureAt w i) x a (itemSum (thickness (w .ice)) i (t .items))))
-      (opened a u (solid-at .1)) (exact-nonneg (t .legs) (w .direction) (w .factor) (pressureAt w i) a (u .0 - solid a .0) _ (solid-at .0))
+  unfolding exactAt
+  nonneg-at = force-nonneg _ _ _ _ _ _ stands-at (pressureAt w i)
 
-  pub bound-at : AtLeast (exactAt t w i) (whole (2 ^ 27))
-  unfolding exactAt exactForce areasAt
+  pub bound-at : AtLeast (exactAt t w i) (whole largestForce)
+  unfolding exactAt
   bound-at =
-      let a : Areas = areasAt t w i in
-      let u : Area = gross (sectionAt t i) in
-      let s : solid a .0 ≤ u .0 = solid-at .1 in
-      let g : u .0 ≤ largestGross = gross-bound (sectionAt t i) section-at in
-      subst (λ (x : Area). AtLeast (exact (t .legs) (w .direction) (w .factor) (pressureAt w i) x a (itemSum (thickness (w .ice)) i (t .items))) (whole (2 ^ 27)))
-      (opened a u s)
-      (exact-bound (t .legs) (w .direction) (w .factor) (pressureAt w i) a (u .0 - solid a .0) _ (solid-at .0) (omega arith) pressure-at
-      (facts .factor .high) (items-bound t w i (v .tower) (facts .ice .high)))
+      winds.force-bound _ _ _ _ _ _ stands-at (gross-bound (sectionAt t i) section-at) (facts .factor .high)
+      (items-bound t w i (v .tower) (facts .ice .high)) (pressureAt w i) pressure-at
 
   -- the reported force is the least whole number of newtons that is not below the exact force
   pub force-least : Least (exactAt t w i) (forceAt t w i .0)
   unfolding forceAt
-  force-least = ceiling-least (exactAt t w i) (sound-at .rational)
+  force-least = ceiling-least sound-at
 
   -- it is less than 1 N above, and so in document 01's band of 2 N
   pub force-within : (margin : ℕ) → 0 < margin → Within margin (exactAt t w i) (forceAt t w i .0)
   unfolding forceAt
   force-within margin p = ceiling-within sound-at nonneg-at margin p
 
-  pub force-bound : forceAt t w i .0 ≤ 2 ^ 27
+  pub force-bound : forceAt t w i .0 ≤ largestForce
   unfolding forceAt
-  force-bound = ceiling-bound sound-at nonneg-at (2 ^ 27) bound-at
+  force-bound = ceiling-bound sound-at nonneg-at largestForce bound-at

@@ -2,8 +2,10 @@ pub mod Lists
 pub mod Solid
 pub mod Coefficients
 pub mod WholeForm
-pub mod ExactForce
+pub mod FaceForce
 pub mod Bounds
+pub mod LesserWinds
+pub mod WeakWinds
 pub mod Sections
 pub mod Forces
 pub mod Moments

@@ -1,5 +1,5 @@
 -- Arms, shears and moments: how they grow from one foot to the next, their bounds, and their excess over the exact ones.
-use Prim.Native.Nat.{ℕ, zero, suc, _+_, _*_, _-_, _/_, _^_, _≤_, _<_}
+use Prim.Native.Nat.{ℕ, zero, suc, _+_, _*_, _-_, _/_, _≤_, _<_}
 use mathlib.Core.Path.{_≡_, refl, ap, sym, _∙_, subst}
 use mathlib.Core.List.{List, [], _∷_, _++_, Forall₂}
 use native.Mathlib.Omega.{arith}
@@ -13,6 +13,7 @@ use Rattle.exact.proofs.Arithmetic.{whole-proper}
 use Rattle.exact.proofs.Sums.{Reported, excess-below}
 use Rattle.model.specs.Lists.{sumTo, listTo}
 use Rattle.model.specs.Tower.{Tower, Wind}
+use Rattle.model.specs.Force.{largestForce}
 use Rattle.model.specs.Report.{heightAt, exactAt, forceAt, arm, shear, moment, shearAt, momentAt, shearTerms, momentTerms, armsTo}
 use Rattle.model.specs.Valid.{ValidWind}
 use Rattle.model.proofs.Lists.{sumTo-none, sumTo-more, sumTo-same, sumTo-bound, sumTo-ones, length-listTo, forall-listTo}
@@ -156,14 +157,14 @@ module _ (t : Tower) (w : Wind) (v : ValidWind t w) (n : ℕ) (within : n ≤ le
       (λ j q. record { proper = whole-proper _; atLeast = force-least t w v j (omega arith) .enough })
 
   -- the largest sums
-  pub shear-bound : shearAt t w n .0 ≤ n * 2 ^ 27
+  pub shear-bound : shearAt t w n .0 ≤ n * largestForce
   unfolding shear
-  shear-bound = sumTo-bound (λ j. forceAt t w j .0) (2 ^ 27) n (λ j q. force-bound t w v j (omega arith))
+  shear-bound = sumTo-bound (λ j. forceAt t w j .0) largestForce n (λ j q. force-bound t w v j (omega arith))
 
-  pub moment-bound : momentAt t w n .0 ≤ n * (2 ^ 27 * (n * 10_000))
+  pub moment-bound : momentAt t w n .0 ≤ n * (largestForce * (n * 10_000))
   unfolding moment
   moment-bound =
       sumTo-bound _ _ n
       (λ j q.
-      mul-le-mul {n₂ = 2 ^ 27} {m₂ = n * 10_000} (force-bound t w v j (omega arith))
+      mul-le-mul {n₂ = largestForce} {m₂ = n * 10_000} (force-bound t w v j (omega arith))
       (arm-bound (heightAt t) 10_000 j n q (λ i r. height-at t w v i (omega arith) .high)))

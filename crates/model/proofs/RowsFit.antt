@@ -12,6 +12,7 @@ use Rattle.model.specs.Lists.{allOf}
 use Rattle.model.specs.Ranges.{sectionCount}
 use Rattle.model.specs.Tower.{Tower, Wind}
 use Rattle.model.specs.Areas.{solid, largestGross}
+use Rattle.model.specs.Force.{largestForce}
 use Rattle.model.specs.Report.{sectionAt, areasAt, forceAt, shearAt, momentAt, row, rowAt, rowsTo, rowsOf}
 use Rattle.model.specs.Valid.{ValidWind}
 use Rattle.exact.proofs.Bools.{and-join}
@@ -44,15 +45,15 @@ module _ (t : Tower) (w : Wind) (v : ValidWind t w) where
     face = le-trans (solid-at t w v i h .1) (gross-bound (sectionAt t i) (section-at t w v i h))
 
     shear-fits : fits64 (shearAt t w (i + 1) .0) ≡ true
-    shear-fits = let n : _ = few in fit (shearAt t w (i + 1) .0) (32 * 2 ^ 27) (omega (arith, shear-bound t w v (i + 1) (omega arith))) (omega arith)
+    shear-fits = let n : _ = few in fit (shearAt t w (i + 1) .0) (32 * largestForce) (omega (arith, shear-bound t w v (i + 1) (omega arith))) (omega arith)
 
     moment-fits : fits64 (momentAt t w (i + 1) .0) ≡ true
     moment-fits =
         let n : _ = few in
-        let a : 2 ^ 27 * ((i + 1) * 10_000) ≤ 2 ^ 27 * 320_000 = omega arith in
-        let b : (i + 1) * (2 ^ 27 * ((i + 1) * 10_000)) ≤ 32 * (2 ^ 27 * 320_000) =
-        mul-le-mul {n₁ = i + 1} {n₂ = 32} {m₂ = 2 ^ 27 * 320_000} (omega arith) a in
-        fit _ (32 * (2 ^ 27 * 320_000)) (le-trans (moment-bound t w v (i + 1) (omega arith)) b) (omega arith)
+        let a : largestForce * ((i + 1) * 10_000) ≤ largestForce * 320_000 = omega arith in
+        let b : (i + 1) * (largestForce * ((i + 1) * 10_000)) ≤ 32 * (largestForce * 320_000) =
+        mul-le-mul {n₁ = i + 1} {n₂ = 32} {m₂ = largestForce * 320_000} (omega arith) a in
+        fit _ (32 * (largestForce * 320_000)) (le-trans (moment-bound t w v (i + 1) (omega arith)) b) (omega arith)
 
     row-fits : allOf fits64 (rowAt t w i) ≡ true
     unfolding row
@@ -61,7 +62,7 @@ module _ (t : Tower) (w : Wind) (v : ValidWind t w) where
         and-join (a .0)
         (and-join (a .1)
         (and-join (a .2)
-        (and-join (fit (forceAt t w i .0) (2 ^ 27) (force-bound t w v i h) (omega arith)) (and-join shear-fits (and-join moment-fits refl)))))
+        (and-join (fit (forceAt t w i .0) largestForce (force-bound t w v i h) (omega arith)) (and-join shear-fits (and-join moment-fits refl)))))
 
   rows-to-fit : (n : ℕ) → n ≤ length (t .sections) → allOf fits64 (rowsTo t w n) ≡ true
   unfolding rowsTo

@@ -1,21 +1,24 @@
 -- What is known of a section, of an item and of a wind that are within document 01's ranges.
-use Prim.Native.Nat.{ℕ, _+_, _*_, _%_, _^_, _≤_, _<_}
-use mathlib.Core.Path.{_≡_}
-use mathlib.Core.Bool.{true}
+use Prim.Native.Nat.{ℕ, zero, suc, _+_, _*_, _%_, _^_, _≤_, _<_}
+use mathlib.Core.Path.{_≡_, refl}
+use mathlib.Core.Bool.{Bool, true, false, cond}
 use mathlib.Core.List.{List, [], _∷_}
 use native.Mathlib.Omega.{arith}
 use native.Mathlib.Nat.{mul-pos, mul-le-mul}
 use lib.Dec.{leb, ltb, eqb}
-use lib.ListN.{length}
+use lib.ListN.{length, getD}
 use borrow.Author.Tests.{leb-true, ltb-true, eqb-true, le-leb}
 use Rattle.units.specs.declared.Length.{Length}
+use Rattle.model.specs.declared.Member.{Member}
+use Rattle.model.specs.declared.Member.the-variants.{Flat, Round}
+use Rattle.model.specs.declared.Flow.the-variants as flow
 use Rattle.model.specs.declared.Group.{Group}
 use Rattle.model.specs.declared.Item.{Item}
 use Rattle.model.specs.Lists.{sumBy, allOf}
 use Rattle.model.specs.declared.Range.{Range}
 use Rattle.model.specs.Ranges.{within, sectionWidth, sectionHeight, groupCount, memberSize, memberLength, itemWidth, itemLength, coefficients, positionFactor}
 use Rattle.model.specs.Tower.{Section}
-use Rattle.model.specs.Areas.{sizeOf, groupArea, itemArea, gross, solidOf, bareSolid, largestGross}
+use Rattle.model.specs.Areas.{sizeOf, groupArea, itemArea, gross, isSupercritical, flowOf, lesserOf, sameFlow, areaIn, areasOf, solidOf, bareSolid, largestGross}
 use Rattle.model.specs.Force.{coefficient, itemPart, largestItem}
 use Rattle.model.specs.File.{fieldsInRange}
 use Rattle.model.specs.Valid.{groupFits, sectionFits}
@@ -50,6 +53,31 @@ solid-positive t [] h a = absurd (omega arith)
 solid-positive t (g ∷ gs) h a =
     let k : _ = and-split (groupFits g) (allOf groupFits gs) a in
     omega (arith, group-positive t g (k .0))
+
+-- groups that have areas, of which none is supercritical, have no lesser wind
+no-lesser : (t : Length) (q : ℕ) (g : Group) → groupFits g ≡ true → areaIn flow.Supercritical t q g .0 ≡ 0 → lesserOf t q (g .member) ≡ []
+unfolding areaIn flowOf lesserOf
+no-lesser t q g h = go (g .member)
+  where
+    area : 0 < groupArea t g .0
+    area = group-positive t g h
+
+    round : (b : Bool) (p : ℕ) → cond (sameFlow flow.Supercritical (cond b flow.Supercritical flow.Subcritical)) (groupArea t g) (record { 0 = 0 }) .0 ≡ 0
+        → cond b (p ∷ []) [] ≡ []
+    round true p e = absurd (omega (arith, area))
+    round false p e = refl
+
+    go : (m : Member) → cond (sameFlow flow.Supercritical (flowOf t q m)) (groupArea t g) (record { 0 = 0 }) .0 ≡ 0 → lesserOf t q m ≡ []
+    go (Flat w) e = refl
+    go (Round d) e = round (isSupercritical t q d) _ e
+
+pub none-lesser : (t : Length) (q : ℕ) (gs : List Group) → allOf groupFits gs ≡ true → areasOf t q gs .supercritical .0 ≡ 0
+    → (i : ℕ) (d : Group) → i < length gs → lesserOf t q (getD gs i d .member) ≡ []
+unfolding areasOf sumBy
+none-lesser t q [] h e i d b = absurd (omega arith)
+none-lesser t q (g ∷ gs) h e zero d b = no-lesser t q g (and-split (groupFits g) (allOf groupFits gs) h .0) (omega arith)
+none-lesser t q (g ∷ gs) h e (suc i) d b =
+    none-lesser t q gs (and-split (groupFits g) (allOf groupFits gs) h .1) (omega arith) i d (omega arith)
 
 -- a section
 pub record SectionFacts (s : Section) : Type 0 where
@@ -117,4 +145,4 @@ item-bound t it ht h =
     let x : coefficient t it ≤ 3000 = coefficient-bound t it 3000 (k .bare .high) (k .iced .high) in
     let y : (it .width .0 + 2 * t .0) * it .length .0 ≤ 3100 * 10_000 =
     mul-le-mul {n₁ = it .width .0 + 2 * t .0} {m₁ = it .length .0} {n₂ = 3100} {m₂ = 10_000} (omega arith) (omega arith) in
-    mul-le-mul {n₂ = 3000 * 1000} {m₂ = 31_000_000} (mul-le-mul {n₂ = 3000} {m₂ = 1000} x (k .position .high)) y
+    mul-le-mul {n₂ = 3000 * 1000} {m₂ = 3100 * 10_000} (mul-le-mul {n₂ = 3000} {m₂ = 1000} x (k .position .high)) y

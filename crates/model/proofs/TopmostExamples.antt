@@ -5,12 +5,14 @@ use mathlib.Core.Bool.{Bool}
 use native.Mathlib.Omega.{arith}
 use lib.Dec.{lit<}
 use Rattle.exact.specs.Fraction.{_//_, whole, _⊕_, _⊖_, _·_, _≼ᵇ_}
-use Rattle.exact.specs.Number.{_⊞_, _⊙_, Sound, square, atLeastᵇ}
+use Rattle.exact.specs.Rooted.{_⊞_, _⊙_, square, _√≼ᵇ_}
+use Rattle.exact.specs.Number.{Sound, atLeastᵇ}
+use Rattle.exact.proofs.Greatest.{sound-only}
 use Rattle.exact.proofs.Ceiling.{ceiling-tested}
 use Rattle.units.specs.declared.Force.{Force}
-use Rattle.model.specs.Lists.{sumBy}
-use Rattle.model.specs.Areas.{groupArea, itemArea, gross, flowOf, areaIn, areasOf, solid}
-use Rattle.model.specs.Force.{m², solidity, C1, C2, c-f, c-c, c-p, K1, K2, quarters, halves, s, Kθ, coefficient, itemPart, itemSum, resistance, exact, exactForce}
+use Rattle.model.specs.Lists.{sumBy, joined}
+use Rattle.model.specs.Areas.{groupArea, itemArea, gross, flowOf, areaIn, areasOf, solid, lesserOf, lesserWinds}
+use Rattle.model.specs.Force.{m², solidity, C1, C2, c-f, c-c, c-p, K1, K2, quarters, halves, s, Kθ, coefficient, itemPart, itemSum, resistance, faceForce, formula, exactForce}
 use Rattle.model.specs.Report.{sectionAt, exactAt, forceAt, shear, exceeds, TopmostOver}
 use Rattle.model.specs.Examples.{plainTower, threeAllowing, threePressed}
 use Rattle.model.proofs.Moments.{shear-none, shear-more}
@@ -22,10 +24,11 @@ module _ (a b c : ℕ) where
   force = forceAt (threeAllowing a b c) threePressed
 
   forces : (force 0 .0 ≡ 7033) × (force 1 .0 ≡ 7033) × (force 2 .0 ≡ 7033)
-  unfolding _//_ whole _⊕_ _⊖_ _·_ _≼ᵇ_ _⊞_ _⊙_ square atLeastᵇ sumBy groupArea itemArea gross flowOf areaIn areasOf solid m² solidity C1 C2 c-f c-c c-p K1 K2 quarters halves s Kθ coefficient itemPart itemSum resistance exact exactForce exactAt plainTower threeAllowing threePressed forceAt
+  unfolding _//_ whole _⊕_ _⊖_ _·_ _≼ᵇ_ _⊞_ _⊙_ square _√≼ᵇ_ atLeastᵇ sumBy joined groupArea itemArea gross flowOf areaIn areasOf solid lesserOf lesserWinds m² solidity C1 C2 c-f c-c c-p K1 K2 quarters halves s Kθ coefficient itemPart itemSum resistance faceForce formula exactForce exactAt plainTower threeAllowing threePressed forceAt
   forces =
       let sound : Sound (exactAt (threeAllowing a b c) threePressed 0) =
-      record { rational = record { positive = lit< tt }; factor = record { positive = lit< tt }; radicand = record { positive = lit< tt } } in
+      sound-only
+      (record { rational = record { positive = lit< tt }; factor = record { positive = lit< tt }; radicand = record { positive = lit< tt } }) in
       (ceiling-tested sound 7032 refl refl, ceiling-tested sound 7032 refl refl, ceiling-tested sound 7032 refl refl)
 
   shears : (shear force 1 .0 ≡ 7033) × (shear force 2 .0 ≡ 14_066) × (shear force 3 .0 ≡ 21_099)

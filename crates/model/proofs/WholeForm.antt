@@ -1,17 +1,17 @@
--- The exact force is the number (num − √radicand) / den of whole numbers.
+-- The force on a face is the number (num − √radicand) / den of whole numbers.
 use Prim.Native.Nat.{ℕ, _+_, _*_}
 use mathlib.Core.Path.{_≡_, refl, ap}
 use native.Mathlib.Omega.{arith}
 use Rattle.units.specs.declared.Area.{Area}
 use Rattle.exact.specs.Fraction.{Fraction, _//_, whole, _⊕_, _·_}
-use Rattle.exact.specs.Number.{_⊞_, _⊙_, square, Same}
+use Rattle.exact.specs.Rooted.{_⊞_, _⊙_, square, Same}
 use Rattle.exact.specs.Surd.{number}
 use Rattle.exact.proofs.Value.{Is, ·-is, ⊕-is, //-is, rescale, re-is, is-number}
 use Rattle.model.specs.declared.Legs.{Legs}
 use Rattle.model.specs.declared.Legs.the-variants.{Three, Four}
 use Rattle.model.specs.declared.Areas.{Areas}
 use Rattle.model.specs.Areas.{solid}
-use Rattle.model.specs.Force.{m², solidity, c-f, c-c, c-p, resistance, exact}
+use Rattle.model.specs.Force.{m², solidity, c-f, c-c, c-p, resistance, faceForce}
 use Rattle.model.specs.WholeForm.{grossOf, incidenceDen, incidenceNum, faceDen, faceNum, rootNum, wholeForm}
 use Rattle.model.proofs.Coefficients.{flat-is, sub-is, super-is, root-is, incidence-is, openNum, rootDen}
 
@@ -64,8 +64,8 @@ module _ (l : Legs) (k factor q : ℕ) (a : Areas) (e items : ℕ) where
       (⊕-is (·-is (flat-is l (solid a .0) e) (m²-is (a .flat))) (·-is (sub-is l (solid a .0) e) (m²-is (a .subcritical))))
       (re-is (omega arith) (omega arith) (·-is (m²-is (a .supercritical)) (super-is l φ (solid a .0 + e))))
 
-  rational-is : Is (exact l k factor q (grossOf a e) a items .rational) (wholeForm l k factor q a e items .num) (wholeForm l k factor q a e items .den)
-  unfolding exact resistance solidity _⊞_ _⊙_ wholeForm φ
+  rational-is : Is (faceForce l k factor q (grossOf a e) a items .rational) (wholeForm l k factor q a e items .num) (wholeForm l k factor q a e items .den)
+  unfolding faceForce resistance solidity _⊞_ _⊙_ wholeForm φ
   rational-is =
       let h : ℕ = incidenceDen l (solid a .0) e * faceDen l (solid a .0 + e) in
       let d : ℕ = h * 1_000_000_000_000 in
@@ -75,16 +75,16 @@ module _ (l : Legs) (k factor q : ℕ) (a : Areas) (e items : ℕ) where
       (re-is {d′ = d} refl (omega arith) (rescale h (//-is items 1_000_000_000_000)))
       (re-is {d′ = d} refl (omega arith) (rescale 1_000_000 (·-is (incidence-is l k e a) face-is)))))
 
-  factor-is : Is (exact l k factor q (grossOf a e) a items .factor)
+  factor-is : Is (faceForce l k factor q (grossOf a e) a items .factor)
       (q * factor * incidenceNum l k a e * a .supercritical .0) (1000 * incidenceDen l (solid a .0) e * 1_000_000)
-  unfolding exact resistance solidity _⊞_ _⊙_ c-p φ
+  unfolding faceForce resistance solidity _⊞_ _⊙_ c-p φ
   factor-is =
       re-is (omega arith) (omega arith)
       (·-is (load-is q factor) (·-is (incidence-is l k e a) (·-is (m²-is (a .supercritical)) one-is)))
 
-  square-is : Is (square (exact l k factor q (grossOf a e) a items)) (wholeForm l k factor q a e items .radicand)
+  square-is : Is (square (faceForce l k factor q (grossOf a e) a items)) (wholeForm l k factor q a e items .radicand)
       (wholeForm l k factor q a e items .den * wholeForm l k factor q a e items .den)
-  unfolding square exact resistance solidity _⊞_ _⊙_ wholeForm φ
+  unfolding square faceForce resistance solidity _⊞_ _⊙_ wholeForm φ
   square-is =
       rw (root-num l (solid a .0) e)
       (re-is
@@ -94,6 +94,6 @@ module _ (l : Legs) (k factor q : ℕ) (a : Areas) (e items : ℕ) where
       (rescale (rootScale l * ((solid a .0 + e) * (solid a .0 + e)) * 1_000_000_000_000)
       (·-is (·-is factor-is factor-is) (root-is l (solid a .0) e))))
 
-  -- the exact force is that of the whole-number form
-  pub exact-whole : Same (exact l k factor q (grossOf a e) a items) (number (wholeForm l k factor q a e items))
-  exact-whole = is-number _ _ rational-is square-is
+  -- the force on a face is that of the whole-number form
+  pub face-whole : Same (faceForce l k factor q (grossOf a e) a items) (number (wholeForm l k factor q a e items))
+  face-whole = is-number _ _ rational-is square-is

@@ -1,7 +1,7 @@
 -- Document 01, "Areas and flow". Areas are in mm², pressures q in N/m², t is the thickness of the ice.
-use Prim.Native.Nat.{ℕ, _+_, _*_}
+use Prim.Native.Nat.{ℕ, _+_, _*_, _/_}
 use mathlib.Core.Bool.{Bool, true, false, cond, _&&_}
-use mathlib.Core.List.{List}
+use mathlib.Core.List.{List, [], _∷_}
 use lib.Dec.{eqb, ltb}
 use Rattle.units.specs.declared.Length.{Length}
 use Rattle.units.specs.declared.Area.{Area}
@@ -12,7 +12,7 @@ use Rattle.model.specs.declared.Flow.the-variants as flow
 use Rattle.model.specs.declared.Areas.{Areas}
 use Rattle.model.specs.declared.Group.{Group}
 use Rattle.model.specs.declared.Item.{Item}
-use Rattle.model.specs.Lists.{sumBy}
+use Rattle.model.specs.Lists.{sumBy, joined}
 use Rattle.model.specs.Tower.{Section}
 
 -- ice class 0 is bare; 1 to 5 are G1 to G5 of ISO 12494: t = 10, 20, 30, 40, 50 mm
@@ -43,12 +43,25 @@ abbrev pub largestGross : ℕ
 largestGross = 150_000_000
 
 -- a round group of bare diameter d under pressure q is supercritical exactly if t = 0 and 2 q d² > 45 000 000
+abbrev pub flowLimit : ℕ
+flowLimit = 45_000_000
+
 abbrev pub isSupercritical : Length → ℕ → Length → Bool
-isSupercritical t q d = eqb (t .0) 0 && ltb 45_000_000 (2 * q * (d .0 * d .0))
+isSupercritical t q d = eqb (t .0) 0 && ltb flowLimit (2 * q * (d .0 * d .0))
 
 unfoldable pub flowOf : Length → ℕ → Member → Flow
 flowOf t q (Flat w) = flow.Flat
 flowOf t q (Round d) = cond (isSupercritical t q d) flow.Supercritical flow.Subcritical
+
+-- Document 02, M-103. The lesser wind of a member that is supercritical under q: the greatest whole pressure p with
+-- 2 p d² ≤ 45 000 000 (law `lesser-greatest` in proofs/LesserWinds). Other members have none.
+unfoldable pub lesserOf : Length → ℕ → Member → List ℕ
+lesserOf t q (Flat w) = []
+lesserOf t q (Round d) = cond (isSupercritical t q d) (flowLimit / (2 * (d .0 * d .0)) ∷ []) []
+
+-- those of a section's groups
+unfoldable pub lesserWinds : Length → ℕ → List Group → List ℕ
+lesserWinds t q gs = joined (λ g. lesserOf t q (g .member)) gs
 
 abbrev pub sameFlow : Flow → Flow → Bool
 sameFlow flow.Flat flow.Flat = true

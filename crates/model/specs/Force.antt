@@ -1,20 +1,22 @@
--- Document 01, "The exact force": the formulas of annex NA.B as printed, with fractions. Fractions are written n // d.
-use Prim.Native.Nat.{ℕ, _+_, _*_, _%_}
+-- Document 01, "The exact force", with document 02, M-103: the formulas of annex NA.B as printed, with fractions.
+-- Fractions are written n // d.
+use Prim.Native.Nat.{ℕ, _+_, _*_, _%_, _^_}
 use mathlib.Core.Bool.{cond}
-use mathlib.Core.List.{List, [], _∷_}
+use mathlib.Core.List.{List, [], _∷_, map}
 use lib.Dec.{eqb}
 use lib.ListN.{getD}
 use Rattle.units.specs.declared.Length.{Length}
 use Rattle.units.specs.declared.Area.{Area}
 use Rattle.exact.specs.Fraction.{Fraction, _//_, whole, _⊕_, _⊖_, _·_, _≼ᵇ_}
-use Rattle.exact.specs.Number.{Exact, _⊞_, _⊙_}
+use Rattle.exact.specs.Rooted.{Rooted, _⊞_, _⊙_}
+use Rattle.exact.specs.Number.{Exact}
 use Rattle.model.specs.declared.Legs.{Legs}
 use Rattle.model.specs.declared.Legs.the-variants.{Three, Four}
 use Rattle.model.specs.declared.Areas.{Areas}
 use Rattle.model.specs.declared.Item.{Item}
 use Rattle.model.specs.Lists.{sumBy}
 use Rattle.model.specs.Tower.{Section}
-use Rattle.model.specs.Areas.{itemArea, gross, areasOf, solid}
+use Rattle.model.specs.Areas.{itemArea, gross, areasOf, solid, lesserWinds}
 
 -- areas in m²
 unfoldable pub m² : Area → Fraction
@@ -42,7 +44,7 @@ unfoldable pub c-c : Legs → Fraction → Fraction
 c-c l φ = C1 l · (whole 1 ⊖ C2 l · φ) ⊕ (C1 l ⊕ 875 // 1000) · (φ · φ)
 
 -- c_p = 1.9 − √((1 − φ)(2.8 − 1.14 C1 + φ)), NA.B.5c
-unfoldable pub c-p : Legs → Fraction → Exact
+unfoldable pub c-p : Legs → Fraction → Rooted
 c-p l φ =
     record {
       rational = 19 // 10;
@@ -95,22 +97,33 @@ itemSum t i items = sumBy (λ it. cond (eqb (it .section) i) (itemPart t it) 0) 
 
 -- the largest item: 3 m by 10 m under 50 mm of ice, coefficient 3 and K 1; no section has more than 64 of it (laws `item-bound`, `items-bound`)
 abbrev pub largestItem : ℕ
-largestItem = 3000 * 1000 * 31_000_000
+largestItem = 3000 * 1000 * (3100 * 10_000)
 
 abbrev pub largestItems : ℕ
 largestItems = 64 * largestItem
 
 -- Kθ (c_f A_f + c_c A_c + c_p A_p) + items, in m²
-unfoldable pub resistance : Legs → ℕ → Area → Areas → ℕ → Exact
+unfoldable pub resistance : Legs → ℕ → Area → Areas → ℕ → Rooted
 resistance l k u a items =
     let φ : Fraction = solidity a u in
     items // 1_000_000_000_000
     ⊞ Kθ l k φ a ⊙ (c-f l φ · m² (a .flat) ⊕ c-c l φ · m² (a .subcritical) ⊞ m² (a .supercritical) ⊙ c-p l φ)
 
--- q times structure factor times [..]
-unfoldable pub exact : Legs → ℕ → ℕ → ℕ → Area → Areas → ℕ → Exact
-exact l k factor q u a items = whole q · factor // 1000 ⊙ resistance l k u a items
+-- q times structure factor times [..], for a face with these areas
+unfoldable pub faceForce : Legs → ℕ → ℕ → ℕ → Area → Areas → ℕ → Rooted
+faceForce l k factor q u a items = whole q · factor // 1000 ⊙ resistance l k u a items
 
--- the exact force on a section: legs, direction k, ice t, structure factor, the section, its pressure, and its items' sum
+-- document 01's formula for a section in a wind of pressure p, every group classed at p and its items under p: legs,
+-- direction k, ice t, structure factor, the section, its items' sum
+unfoldable pub formula : Legs → ℕ → Length → ℕ → Section → ℕ → ℕ → Rooted
+formula l k t factor section items p = faceForce l k factor p (gross section) (areasOf t p (section .groups)) items
+
+-- the exact force on a section under pressure q. NA.B.2.3.2.1(5): no lower wind may load a section more whose groups
+-- are taken as supercritical. So it is the greatest of the formula's values at q and in the lesser winds of its groups.
 unfoldable pub exactForce : Legs → ℕ → Length → ℕ → Section → ℕ → ℕ → Exact
-exactForce l k t factor section q items = exact l k factor q (gross section) (areasOf t q (section .groups)) items
+exactForce l k t factor section q items =
+    map (formula l k t factor section items) (q ∷ lesserWinds t q (section .groups))
+
+-- no exact force of a valid tower is larger, in N (law `bound-at` in proofs/Forces)
+abbrev pub largestForce : ℕ
+largestForce = 2 ^ 27

@@ -52,6 +52,12 @@ pub const STRUCTURE_FACTOR: Range = Range {
 
 pub const PRESSURES: Range = Range { low: 0, high: 5000 };
 
+// No exact force is above it, in N; specs/Force has the same name.
+pub const LARGEST_FORCE: u64 = 0x800_0000;
+
+// No item adds more to its section's sum; specs/Force has the same name.
+pub const LARGEST_ITEM: u64 = 3000 * 1000 * (3100 * 10_000);
+
 pub fn within(range: Range, x: u32) -> bool
     ensures { λ r. ⌜ r ≡ ranges.within range x ⌝ }
 {

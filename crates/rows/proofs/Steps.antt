@@ -1,5 +1,5 @@
 -- The steps of the loops over the sections, over plain values.
-use Prim.Native.Nat.{ℕ, _+_, _-_, _*_, _^_, _≤_, _<_}
+use Prim.Native.Nat.{ℕ, _+_, _-_, _*_, _≤_, _<_}
 use mathlib.Core.Path.{_≡_, refl, ap, sym, _∙_}
 use mathlib.Core.Bool.{false}
 use mathlib.Core.List.{List, [], _∷_, _++_, append-assoc}
@@ -10,6 +10,7 @@ use borrow.Rule.Slice.PartMut.{putMid, post-is}
 use Rattle.units.specs.declared.Force.{Force}
 use Rattle.units.specs.declared.Length.{Length}
 use Rattle.model.specs.Tower.{Tower, Wind}
+use Rattle.model.specs.Force.{largestForce}
 use Rattle.model.specs.Report.{sectionAt, heightAt, areasAt, forceAt, row, rowAt, rowsTo, shearAt, momentAt, exceeds, IsOver}
 use Rattle.model.proofs.Moments.{shear-none, shear-more, moment-none, moment-more}
 use Rattle.model.proofs.Rows.{rows-more, length-rows}
@@ -39,8 +40,8 @@ module _ (t : Tower) (w : Wind) where
     pub shear : foot .shear .0 ≡ shearAt t w n .0
     pub moment : foot .moment .0 ≡ momentAt t w n .0
     pub rows : out ≡ rowsTo t w n ++ drop (6 * n) lent
-    pub shear-small : foot .shear .0 ≤ n * 2 ^ 27
-    pub moment-small : foot .moment .0 ≤ n * (2 ^ 27 * 320_000)
+    pub shear-small : foot .shear .0 ≤ n * largestForce
+    pub moment-small : foot .moment .0 ≤ n * (largestForce * 320_000)
 
   pub written-none : (lent : List ℕ) → Written lent 0 lent (record { shear = record { 0 = 0 }; moment = record { 0 = 0 } })
   unfolding rowsTo
@@ -56,7 +57,7 @@ module _ (t : Tower) (w : Wind) where
   -- after n sections: the shear at the foot of the last, and none of them is over its allowance
   pub record Checked (n : ℕ) (v : Force) : Type 0 where
     pub shear : v .0 ≡ shearAt t w n .0
-    pub small : v .0 ≤ n * 2 ^ 27
+    pub small : v .0 ≤ n * largestForce
     pub none : (i : ℕ) → i < n → IsOver t w i → ⊥
 
   pub checked-none : Checked 0 (record { 0 = 0 })
@@ -96,7 +97,7 @@ module _ {t : Tower} {w : Wind} {i : ℕ} where
     unfolding row
     row-is = rw (ea, ef, next-shear, next-moment)
 
-    pub written-next : (part : List ℕ) → load .force .0 ≤ 2 ^ 27 → part ≡ rowOf load foot
+    pub written-next : (part : List ℕ) → load .force .0 ≤ largestForce → part ≡ rowOf load foot
         → Written t w lent (i + 1) (putMid (6 * i) (6 * i + 6 - 6 * i) out part) foot
     written-next part b e =
         record {
@@ -113,7 +114,7 @@ module _ {t : Tower} {w : Wind} {i : ℕ} where
   exceeds-is {a = a} s ef ea =
       ap (λ (n : ℕ). exceeds (record { 0 = n }) a) (shear-next t w i (s .shear) ef) ∙ ap (exceeds (shearAt t w (i + 1))) ea
 
-  pub checked-next : {above f : Force} → Checked t w i above → f ≡ forceAt t w i → f .0 ≤ 2 ^ 27
+  pub checked-next : {above f : Force} → Checked t w i above → f ≡ forceAt t w i → f .0 ≤ largestForce
       → exceeds (shearAt t w (i + 1)) (sectionAt t i .allowance) ≡ false → Checked t w (i + 1) (record { 0 = above .0 + f .0 })
   checked-next s ef b g =
       record { shear = shear-next t w i (s .shear) ef; small = omega (arith, s .small); none = none-more i (s .none) g }

@@ -1,5 +1,5 @@
 -- The load on one section, the foot below it, and its row.
-use Prim.Native.Nat.{ℕ, _+_, _*_, _/_, _^_, _≤_}
+use Prim.Native.Nat.{ℕ, _+_, _*_, _/_, _≤_}
 use mathlib.Core.Path.{_≡_}
 use mathlib.Core.List.{List, [], _∷_}
 use lib.ListN.{getD}
@@ -11,7 +11,7 @@ use Rattle.model.specs.declared.Section.{Section}
 use Rattle.model.specs.declared.Wind.{Wind}
 use Rattle.model.specs.Tower.{sectionOf}
 use Rattle.model.specs.Areas.{thickness, areasOf}
-use Rattle.model.specs.Force.{exactForce}
+use Rattle.model.specs.Force.{exactForce, largestForce}
 use Rattle.force.specs.declared.Load.{Load}
 use Rattle.rows.specs.declared.Foot.{Foot}
 
@@ -22,13 +22,13 @@ pub record LoadOn (legs : Legs) (w : Wind) (s : Section) (i items : ℕ) (r : Lo
       Least
       (exactForce legs (w .direction) (thickness (w .ice)) (w .factor) (sectionOf s) (getD (w .pressures) i 0) items)
       (r .force .0)
-  pub small : r .force .0 ≤ 2 ^ 27
+  pub small : r .force .0 ≤ largestForce
 
 -- the foot of a section of this height, under this force at its mid-height, below a foot
 pub record NextFoot (above : Foot) (force : Force) (height : Length) (r : Foot) : Type 0 where
   pub shear : r .shear .0 ≡ above .shear .0 + force .0
   pub moment : r .moment .0 ≡ above .moment .0 + above .shear .0 * height .0 + force .0 * (height .0 / 2)
-  pub small : r .moment .0 ≤ above .moment .0 + 2 ^ 27 * 320_000
+  pub small : r .moment .0 ≤ above .moment .0 + largestForce * 320_000
 
 -- the six numbers
 abbrev pub rowOf : Load → Foot → List ℕ

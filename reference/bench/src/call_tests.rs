@@ -20,7 +20,11 @@ fn supercritical(tower: &Tower, wind: &Wind) -> (usize, usize) {
 
 #[test]
 fn the_largest_towers_have_as_much_of_all_as_may_be() {
-    for (rounds, wanted) in [(Rounds::Thick, (32, 0)), (Rounds::Thin, (0, 32))] {
+    for (rounds, wanted) in [
+        (Rounds::Thick, (32, 0)),
+        (Rounds::One, (32, 0)),
+        (Rounds::Thin, (0, 32)),
+    ] {
         let tower = towers::largest(rounds);
         assert_eq!(write(&tower).len(), 2_915);
         assert!(tower
@@ -67,7 +71,7 @@ fn the_reports_are_the_same_and_the_plain_one_is_near() {
 
 #[test]
 fn every_report_is_accepted_in_each_version() {
-    for timed in [timed_towers().remove(0), mast()] {
+    for timed in timed_towers() {
         for rounds in [0, 1, 2, 5] {
             for library in Calls::all(true) {
                 assert_eq!(timed.library(&library, rounds), rounds);

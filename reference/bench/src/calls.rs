@@ -116,19 +116,27 @@ impl TimedTower {
     }
 }
 
-/// Those whose reports are timed, the two largest first.
+/// Those whose reports are timed, the three largest first.
 pub fn timed_towers() -> Vec<TimedTower> {
-    let [thick, thin] = [Rounds::Thick, Rounds::Thin].map(towers::largest);
+    let [thick, one, thin] = [Rounds::Thick, Rounds::One, Rounds::Thin].map(towers::largest);
     let ice = Wind {
         ice_class: 1,
         ..towers::wind(&thin)
     };
     vec![
-        TimedTower::bare("largest, supercritical", thick),
+        TimedTower::bare("largest, four tubes a section", thick),
+        TimedTower::bare("largest, one tube a section", one),
         TimedTower::bare("largest, no supercritical", thin.clone()),
         TimedTower::new("largest, iced", thin, ice),
         mast(),
+        one_tube_mast(),
     ]
+}
+
+/// The mast with one tube a section.
+fn one_tube_mast() -> TimedTower {
+    let tower = towers::tower(Rounds::One, 12, 8);
+    TimedTower::bare("12 sections, 8 items, one tube a section", tower)
 }
 
 /// A mast of a dozen sections with eight items.

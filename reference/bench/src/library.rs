@@ -21,6 +21,7 @@ pub trait Library: Copy + 'static {
     }
 
     /// Those of this repository, and of another checkout if they are asked for.
+    #[cfg(test)]
     fn all(beside: bool) -> impl Iterator<Item = Self> {
         [Some(Self::THIS), Self::beside(beside)]
             .into_iter()

@@ -29,6 +29,9 @@ mod tests;
 mod timing;
 mod towers;
 #[cfg(test)]
+mod tube_tests;
+mod tubes;
+#[cfg(test)]
 mod word_tests;
 mod words;
 
@@ -36,9 +39,9 @@ use calls::{mast, timed_calls, timed_towers, with_room, TimedTower};
 use fields::{timed_fields, Fetch, TimedFields};
 use file::timed_files;
 use library::{Calls, Files, Forces, Library};
-use proved::{beside_rust, differences, times, InRust, Proved};
+use proved::{beside_rust, times, Differences, InRust, Proved};
 use rates::Rate;
-use section::{kind, sections, Timed};
+use section::{sections, Kind, Timed};
 use std::process::ExitCode;
 use timing::{head, line, Pair, PairTable, Times};
 use words::{parse, Command, Parts, Run, USAGE};
@@ -93,34 +96,41 @@ fn run(asked: &Run) -> bool {
     !differ.contains(&true)
 }
 
-/// Says each difference; whether there is none.
-fn none_differs(differences: &[String]) -> bool {
-    for difference in differences {
+/// Says what differs in a part; whether it may be timed.
+fn may_be_timed(part: &str, differ: &Differences, asked: &Run) -> bool {
+    let stop = differ.that_stop(asked.changed);
+    for difference in &stop {
         eprintln!("bench: {}", difference.trim_end());
     }
-    differences.is_empty()
+    if asked.changed {
+        println!("{part}: {}", differ.beside());
+    }
+    stop.is_empty()
 }
 
 /// Sections of a kind, and its name.
-type Kind = (&'static str, Vec<Timed>);
+type OfKind = (&'static str, Vec<Timed>);
 
 /// Compares the section forces and, if they are the same, times them.
 fn run_force(asked: &Run) -> bool {
-    let of_kind = |supercritical| (kind(supercritical), sections(supercritical, SECTIONS));
-    let kinds = [true, false].map(of_kind);
-    let differ = |(_, sections): &Kind| differences(sections, asked.beside);
-    let same = none_differs(&kinds.iter().flat_map(differ).collect::<Vec<_>>());
-    if same {
+    let kinds = Kind::ALL.map(|kind| (kind.name(), sections(kind, SECTIONS)));
+    let other = Forces::beside(asked.beside);
+    let mut differ = Differences::default();
+    for (_, sections) in &kinds {
+        differ.compare(sections, other);
+    }
+    let sound = may_be_timed("force", &differ, asked);
+    if sound {
         show_forces(&kinds, asked.each);
-        if let Some(other) = Forces::beside(asked.beside) {
+        if let Some(other) = other {
             show_forces_beside(&kinds, &other, asked.each);
         }
     }
-    same
+    sound
 }
 
 /// Prints the table of the section forces.
-fn show_forces(kinds: &[Kind], each: bool) {
+fn show_forces(kinds: &[OfKind], each: bool) {
     println!("{}", head(Timed::WHAT));
     for (name, sections) in kinds {
         let all = show_each(sections, each, |section| times(section, REPETITIONS), line);
@@ -130,7 +140,7 @@ fn show_forces(kinds: &[Kind], each: bool) {
 }
 
 /// Prints that of the section forces beside another library's.
-fn show_forces_beside(kinds: &[Kind], other: &Forces, each: bool) {
+fn show_forces_beside(kinds: &[OfKind], other: &Forces, each: bool) {
     let table = PairTable::beside(Timed::WHAT);
     let by_turns = |section: &_| proved::beside(section, other, REPETITIONS);
     let line = |name: &str, pair| table.line(name, pair);
@@ -138,6 +148,7 @@ fn show_forces_beside(kinds: &[Kind], other: &Forces, each: bool) {
     for (name, sections) in kinds {
         let all = show_each(sections, each, by_turns, line);
         println!("{}", line(&format!("{name}, mean"), Pair::mean(&all)));
+        println!("{}", line(&format!("{name}, worst"), Pair::worst(&all)));
     }
 }
 
@@ -182,11 +193,12 @@ fn show_pairs<P: Proved>(table: &PairTable, works: &[P], by_turns: impl Fn(&P) -
 /// those of the largest or of each.
 fn run_file(asked: &Run) -> bool {
     let (files, fields) = (timed_files(), timed_fields());
-    let mut differ = differences(&files, asked.beside);
+    let mut differ = Differences::default();
+    differ.compare(&files, Files::beside(asked.beside));
     let both = |fields: &TimedFields| Fetch::ALL.map(|fetch| fields.difference(fetch));
-    differ.extend(fields.iter().flat_map(both).flatten());
-    let same = none_differs(&differ);
-    if same {
+    differ.this.extend(fields.iter().flat_map(both).flatten());
+    let sound = may_be_timed("file", &differ, asked);
+    if sound {
         let shown = first(&files, 2, asked);
         show_beside_rust(shown);
         show_beside(shown, asked);
@@ -197,7 +209,7 @@ fn run_file(asked: &Run) -> bool {
             println!("{}", fields::TABLE.line(&name, times));
         }
     }
-    same
+    sound
 }
 
 /// So many of these or, if asked for, each.
@@ -213,12 +225,15 @@ fn first<'a, T>(all: &'a [T], count: usize, asked: &Run) -> &'a [T] {
 /// towers or on each.
 fn run_calls(asked: &Run) -> bool {
     let (towers, calls) = (timed_towers(), timed_calls());
-    let mut differ = differences(&towers, asked.beside);
-    differ.extend(towers.iter().filter_map(TimedTower::plain_difference));
-    differ.extend(differences(&calls, asked.beside));
-    let same = none_differs(&differ);
-    if same {
-        let (towers, calls) = (first(&towers, 2, asked), first(&calls, 2, asked));
+    let other = Calls::beside(asked.beside);
+    let mut differ = Differences::default();
+    differ.compare(&towers, other);
+    let plain = towers.iter().filter_map(TimedTower::plain_difference);
+    differ.this.extend(plain);
+    differ.compare(&calls, other);
+    let sound = may_be_timed("calls", &differ, asked);
+    if sound {
+        let (towers, calls) = (first(&towers, 3, asked), first(&calls, 2, asked));
         println!("{}", head(TimedTower::WHAT));
         for timed in towers {
             println!("{}", line(timed.name, times(timed, REPETITIONS)));
@@ -227,7 +242,7 @@ fn run_calls(asked: &Run) -> bool {
         show_beside_rust(calls);
         show_beside(calls, asked);
     }
-    same
+    sound
 }
 
 /// Times requests through a pipe and compares all answers.

@@ -41,14 +41,43 @@ pub trait Versions: Proved {
     fn exact(&self, rounds: u64) -> u64;
 }
 
-/// What differs in this repository's library and, if asked for, in the other one.
-pub fn differences<P: Proved>(works: &[P], beside: bool) -> Vec<String> {
-    let of = |library| {
-        works
-            .iter()
-            .filter_map(move |work| work.difference(&library))
-    };
-    P::Library::all(beside).flat_map(of).collect()
+/// What differs from the Rust version.
+#[derive(Debug, Default)]
+pub struct Differences {
+    /// In this repository's libraries and versions.
+    pub this: Vec<String>,
+    /// In the libraries beside.
+    beside: Vec<String>,
+    /// Works that the libraries beside were compared in.
+    compared: usize,
+}
+
+impl Differences {
+    /// Compares this repository's library in these works and, if there is one, that
+    /// beside.
+    pub fn compare<P: Proved>(&mut self, works: &[P], beside: Option<P::Library>) {
+        let of = |library| {
+            let difference = move |work: &P| work.difference(&library);
+            works.iter().filter_map(difference)
+        };
+        self.this.extend(of(P::Library::THIS));
+        if let Some(other) = beside {
+            self.beside.extend(of(other));
+            self.compared += works.len();
+        }
+    }
+
+    /// Those with which nothing is timed. The libraries beside may be changed.
+    pub fn that_stop(&self, changed: bool) -> Vec<&str> {
+        let beside = self.beside.iter().filter(|_| !changed);
+        self.this.iter().chain(beside).map(String::as_str).collect()
+    }
+
+    /// In how many works the libraries beside differ.
+    pub fn beside(&self) -> String {
+        let (differ, all) = (self.beside.len(), self.compared);
+        format!("the library beside differs in {differ} of {all} works")
+    }
 }
 
 /// Of this repository's library and the Rust version.

@@ -2,10 +2,14 @@
 
 use crate::calls::{timed_calls, timed_towers};
 use crate::file::timed_files;
-use crate::library::Library;
-use crate::proved::{beside, beside_rust, differences, times, InRust, Proved, Versions};
-use crate::section::sections;
+use crate::library::{Calls, Forces, Library};
+use crate::proved::{beside, beside_rust, times, Differences, InRust, Proved, Versions};
+use crate::section::{sections, Kind, Timed};
 use crate::timing::{Pair, PairTable};
+
+fn supercritical(count: usize) -> Vec<Timed> {
+    sections(Kind::Supercritical, count)
+}
 
 /// Each difference of a library that answers 1 and does nothing.
 fn of_the_wrong<P: Proved>(works: &[P]) -> Vec<String> {
@@ -15,8 +19,8 @@ fn of_the_wrong<P: Proved>(works: &[P]) -> Vec<String> {
 
 #[test]
 fn a_difference_is_told_with_the_name_of_the_library() {
-    let section = &of_the_wrong(&sections(true, 1))[0];
-    let exact = sections(true, 1)[0].exact(16);
+    let section = &of_the_wrong(&supercritical(1))[0];
+    let exact = supercritical(1)[0].exact(16);
     let start = format!("supercritical 0: a wrong library has 1, exact {exact} for ");
     assert!(section.starts_with(&start), "{section}");
     let files = of_the_wrong(&timed_files());
@@ -24,8 +28,8 @@ fn a_difference_is_told_with_the_name_of_the_library() {
     assert_eq!((files.len(), &files[0][..]), (8, read));
     let reports = of_the_wrong(&timed_towers());
     let other = "a wrong library reports other numbers from place 0 on";
-    let report = format!("largest, supercritical: {other}");
-    assert_eq!((reports.len(), &reports[0]), (4, &report));
+    let report = format!("largest, four tubes a section: {other}");
+    assert_eq!((reports.len(), &reports[0]), (6, &report));
     let calls = of_the_wrong(&timed_calls());
     let erect = "erect: 2915 bytes: of 3 calls a wrong library accepts 1, Rust 3";
     assert_eq!((calls.len(), &calls[1][..]), (4, erect));
@@ -34,17 +38,48 @@ fn a_difference_is_told_with_the_name_of_the_library() {
 /// Whether the other libraries are asked for or not.
 fn differs_nowhere<P: Proved>(works: &[P]) {
     for asked in [false, true] {
-        assert_eq!(differences(works, asked), [""; 0]);
+        let mut differ = Differences::default();
+        differ.compare(works, P::Library::beside(asked));
+        assert_eq!(differ.that_stop(false), [""; 0]);
     }
 }
 
 #[test]
 fn the_libraries_do_not_differ() {
-    differs_nowhere(&sections(true, 32));
-    differs_nowhere(&sections(false, 32));
+    for kind in Kind::ALL {
+        differs_nowhere(&sections(kind, 32));
+    }
     differs_nowhere(&timed_files());
     differs_nowhere(&timed_towers());
     differs_nowhere(&timed_calls());
+}
+
+#[test]
+fn a_library_beside_stops_all_where_it_differs() {
+    let mut differ = Differences::default();
+    differ.compare(&supercritical(3), Some(Forces::WRONG));
+    assert_eq!(differ.that_stop(false), of_the_wrong(&supercritical(3)));
+    differ.compare(&supercritical(2), Some(Forces::THIS));
+    assert_eq!(differ.that_stop(false).len(), 3);
+}
+
+#[test]
+fn a_changed_library_beside_may_differ_and_is_counted() {
+    let mut differ = Differences::default();
+    assert_eq!(
+        differ.beside(),
+        "the library beside differs in 0 of 0 works"
+    );
+    differ.compare(&timed_towers(), None);
+    differ.compare(&timed_towers(), Some(Calls::WRONG));
+    differ.compare(&timed_calls(), Some(Calls::THIS));
+    assert_eq!(differ.that_stop(true), [""; 0]);
+    let counted = "the library beside differs in 6 of 10 works";
+    assert_eq!(differ.beside(), counted);
+    differ.this.push("ours".into());
+    assert_eq!(differ.that_stop(true), ["ours"]);
+    let all = differ.that_stop(false);
+    assert_eq!((all.len(), all[0]), (7, "ours"));
 }
 
 #[test]
@@ -59,7 +94,7 @@ fn the_libraries_have_names() {
         assert_eq!(names::<P::Library>(true), both);
         assert_eq!(names::<P::Library>(false), ["the library"]);
     }
-    named(&sections(true, 1));
+    named(&supercritical(1));
     named(&timed_files());
     named(&timed_towers());
 }
@@ -91,7 +126,7 @@ fn has_times_of_three<P: Versions>(work: &P) {
 
 #[test]
 fn a_library_may_be_timed_beside_another() {
-    has_times_of_three(&sections(true, 1)[0]);
+    has_times_of_three(&supercritical(1)[0]);
     timed_files()[..2].iter().for_each(has_times_in_rust);
     has_times_of_three(&timed_towers()[0]);
     timed_calls()[..2].iter().for_each(has_times_in_rust);
@@ -119,8 +154,10 @@ fn the_tables_of_two_say_beside_what() {
 }
 
 #[test]
-fn pairs_have_means() {
+fn pairs_have_means_and_a_greatest_ratio() {
     let pair = |first, second| Pair { first, second };
     let all = [pair(1.0, 10.0), pair(2.0, 30.0), pair(6.0, 20.0)];
     assert_eq!(Pair::mean(&all), pair(3.0, 20.0));
+    let steep = [pair(9.0, 10.0), pair(2.0, 1.0), pair(8.0, 5.0)];
+    assert_eq!(Pair::worst(&steep), steep[1]);
 }

@@ -2,6 +2,7 @@
 
 use crate::library::{Forces, Library};
 use crate::proved::{Proved, Versions};
+use crate::tubes;
 use reference::areas::areas;
 use reference::cases::{random_cases, Case};
 use reference::plain::whole_force;
@@ -13,7 +14,8 @@ pub const PRESSURES: u64 = 16;
 /// A section to be timed.
 pub struct Timed {
     name: String,
-    case: Case,
+    /// At its highest pressure.
+    pub case: Case,
     words: Vec<u64>,
     /// The items' sum in m².
     items: f64,
@@ -87,19 +89,59 @@ impl Versions for Timed {
     }
 }
 
-/// The name of the sections with supercritical members, or of those without.
-pub fn kind(supercritical: bool) -> &'static str {
-    if supercritical {
-        "supercritical"
-    } else {
-        "no supercritical"
+/// What sections are timed together.
+#[derive(Clone, Copy, Debug, PartialEq, Eq)]
+pub enum Kind {
+    /// Random cases with supercritical members at every pressure.
+    Supercritical,
+    /// Random cases without at any.
+    NoSupercritical,
+    /// One supercritical tube, so two values.
+    OneTube,
+    /// Eight of them, so nine values.
+    EightTubes,
+}
+
+impl Kind {
+    /// All of them.
+    pub const ALL: [Kind; 4] = [
+        Kind::Supercritical,
+        Kind::NoSupercritical,
+        Kind::OneTube,
+        Kind::EightTubes,
+    ];
+
+    /// Its name in a table.
+    pub fn name(self) -> &'static str {
+        match self {
+            Kind::Supercritical => "supercritical",
+            Kind::NoSupercritical => "no supercritical",
+            Kind::OneTube => "one tube",
+            Kind::EightTubes => "eight tubes",
+        }
+    }
+
+    fn cases(self) -> Vec<Case> {
+        match self {
+            Kind::Supercritical => random(true),
+            Kind::NoSupercritical => random(false),
+            Kind::OneTube => tubes::one_tube(),
+            Kind::EightTubes => tubes::eight_tubes(),
+        }
     }
 }
 
-/// So many of the random cases with supercritical members at every pressure, or
-/// without at any. At most one item hangs on each, as the library is given the
-/// items' sum and the exact version adds it up.
-pub fn sections(supercritical: bool, count: usize) -> Vec<Timed> {
+/// So many sections of a kind. At most one item hangs on each, as the library is
+/// given the items' sum and the exact version adds it up.
+pub fn sections(kind: Kind, count: usize) -> Vec<Timed> {
+    let cases = kind.cases().into_iter().enumerate().take(count);
+    let timed = |(place, case)| Timed::new(format!("{} {place}", kind.name()), case);
+    cases.map(timed).collect()
+}
+
+/// The random cases with supercritical members at every pressure, or without at
+/// any.
+fn random(supercritical: bool) -> Vec<Case> {
     let wanted = |case: &Case| {
         let highest = case.pressure();
         let Some(lowest) = highest.checked_sub(PRESSURES as u16 - 1) else {
@@ -108,13 +150,13 @@ pub fn sections(supercritical: bool, count: usize) -> Vec<Timed> {
         let at = if supercritical { lowest } else { highest };
         has_supercritical(case, at) == supercritical
     };
-    let cases = random_cases().into_iter().filter(wanted);
-    let lighter = cases.enumerate().map(|(place, mut case)| {
+    let lighter = |mut case: Case| {
         case.tower.items.retain(|item| item.section == 0);
         case.tower.items.truncate(1);
-        Timed::new(format!("{} {place}", kind(supercritical)), case)
-    });
-    lighter.take(count).collect()
+        case
+    };
+    let cases = random_cases().into_iter().filter(wanted);
+    cases.map(lighter).collect()
 }
 
 fn has_supercritical(case: &Case, pressure: u16) -> bool {

@@ -2,7 +2,7 @@
 
 use crate::library::{Forces, Library};
 use crate::proved::{Proved, Versions};
-use crate::section::{sections, PRESSURES};
+use crate::section::{sections, Kind, PRESSURES};
 use crate::timing::{head, line, Times};
 
 const TIMES: [Times; 2] = [
@@ -20,19 +20,22 @@ const TIMES: [Times; 2] = [
 
 #[test]
 fn there_are_some_tens_of_each_kind() {
-    for (supercritical, last) in [(false, "no supercritical 31"), (true, "supercritical 31")] {
-        let names: Vec<String> = sections(supercritical, 32)
-            .iter()
-            .map(Proved::name)
-            .collect();
+    let last = [
+        "supercritical 31",
+        "no supercritical 31",
+        "one tube 31",
+        "eight tubes 31",
+    ];
+    for (kind, last) in Kind::ALL.into_iter().zip(last) {
+        let names: Vec<String> = sections(kind, 32).iter().map(Proved::name).collect();
         assert_eq!((names.len(), &names[31][..]), (32, last));
     }
 }
 
 #[test]
 fn the_library_and_the_exact_version_have_the_same_sums() {
-    for supercritical in [false, true] {
-        for section in sections(supercritical, usize::MAX) {
+    for kind in Kind::ALL {
+        for section in sections(kind, usize::MAX) {
             let turns = 3 * section.exact(PRESSURES) + section.exact(5);
             for library in Forces::all(true) {
                 assert_eq!(section.difference(&library), None);
@@ -44,8 +47,8 @@ fn the_library_and_the_exact_version_have_the_same_sums() {
 
 #[test]
 fn the_plain_version_is_within_1_newton_a_force() {
-    for supercritical in [false, true] {
-        for section in sections(supercritical, 32) {
+    for kind in Kind::ALL {
+        for section in sections(kind, 32) {
             let off = section.plain(PRESSURES).abs_diff(section.exact(PRESSURES));
             assert!(off <= PRESSURES);
         }

@@ -56,6 +56,13 @@ impl Pair {
             second: mean_of(all, |pair| pair.second),
         }
     }
+
+    /// That of the section with the greatest ratio.
+    pub fn worst(all: &[Pair]) -> Pair {
+        let ratio = |pair: &Pair| pair.first / pair.second;
+        let order = |left: &&Pair, right: &&Pair| ratio(left).total_cmp(&ratio(right));
+        *all.iter().max_by(order).expect("a section")
+    }
 }
 
 /// The best of several repetitions, in which the two take turns.

@@ -11,12 +11,19 @@ pub const SECTIONS: usize = *SECTION_COUNT.end() as usize;
 /// that are hung and taken down have the numbers below it.
 pub const FIRST_ITEM: u16 = 1_000;
 
+/// The diameter of a tube that is supercritical from 687 N/m² on.
+const TUBE: u32 = 181;
+
 /// The round members of a tower.
 #[derive(Clone, Copy, Debug, PartialEq, Eq)]
 pub enum Rounds {
     /// All are subcritical.
     Thin,
-    /// All are supercritical, so that a root is taken in every section.
+    /// One in each section is supercritical, and its lesser wind is worked out; it
+    /// governs in some.
+    One,
+    /// All are supercritical, four in each section, and their lesser winds are
+    /// worked out.
     Thick,
 }
 
@@ -43,10 +50,11 @@ pub fn largest(rounds: Rounds) -> Tower {
 fn section_of(rounds: Rounds, place: u32) -> Section {
     let group = |turn: u32| {
         let length = 3_700 + 90 * (place % 7) + 210 * turn;
-        match (turn % 2, rounds) {
-            (0, _) => flat(60 + 10 * turn + place, length),
-            (_, Rounds::Thin) => round(80 + 10 * turn, length),
-            (_, Rounds::Thick) => round(180 + 10 * turn, length),
+        match (turn % 2, rounds, turn) {
+            (0, ..) => flat(60 + 10 * turn + place, length),
+            (_, Rounds::Thick, _) => round(180 + 10 * turn, length),
+            (_, Rounds::One, 1) => round(TUBE, length),
+            _ => round(80 + 10 * turn, length),
         }
     };
     let groups: Vec<Group> = (0..8).map(group).collect();

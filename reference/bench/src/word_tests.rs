@@ -17,6 +17,7 @@ fn run(parts: Parts, each: bool, towerd: &str) -> Result<Command, String> {
         parts,
         each,
         beside: false,
+        changed: false,
         towerd: towerd.to_string(),
     }))
 }
@@ -64,6 +65,7 @@ fn run_beside(parts: Parts, each: bool, towerd: &str) -> Result<Command, String>
         parts,
         each,
         beside: true,
+        changed: false,
         towerd: towerd.to_string(),
     }))
 }
@@ -115,6 +117,24 @@ fn the_libraries_beside_must_be_linked() {
 }
 
 #[test]
+fn changed_goes_with_the_libraries_beside() {
+    let linked = |line| linked_words(line, Parts::ALL);
+    let changed = |line| match linked(line) {
+        Ok(Command::Run(run)) => (run.beside, run.changed),
+        other => panic!("{line}: {other:?}"),
+    };
+    assert_eq!(changed("force --beside --changed"), (true, true));
+    assert_eq!(changed("--changed calls --beside"), (true, true));
+    assert_eq!(changed("file --beside"), (true, false));
+    let alone = Err("--changed goes with --beside".into());
+    assert_eq!(linked("force --changed"), alone);
+    assert_eq!(words("--changed file"), alone);
+    let nothing = Err("--beside goes with force, file or calls".into());
+    assert_eq!(linked("pipe --towerd p --beside --changed"), nothing);
+    assert!(USAGE.contains("\n  --changed         with --beside: "));
+}
+
+#[test]
 fn the_words_may_be_wrong_or_ask_for_help() {
     assert_eq!(words("file --help"), Ok(Command::Help));
     assert_eq!(words("files"), Err("unknown word: files".into()));
@@ -123,7 +143,6 @@ fn the_words_may_be_wrong_or_ask_for_help() {
     assert_eq!(words(""), unnamed);
     let missing = Err("--towerd names no program".into());
     assert_eq!(words("pipe --towerd"), missing);
-    let first =
-        "usage: bench [force] [file] [calls] [pipe] [--each] [--beside] [--towerd PROGRAM]\n";
+    let first = "usage: bench [force] [file] [calls] [pipe] [--each] [--beside [--changed]]\n";
     assert!(USAGE.starts_with(first));
 }

@@ -2,13 +2,16 @@
 
 /// What is printed for `--help`.
 pub const USAGE: &str = "\
-usage: bench [force] [file] [calls] [pipe] [--each] [--beside] [--towerd PROGRAM]
+usage: bench [force] [file] [calls] [pipe] [--each] [--beside [--changed]]
+             [--towerd PROGRAM]
        bench --help
 
 force: checks that the proved library and the exact Rust version have the same
 forces, then prints the nanoseconds per section force of the library, of a plain
-f64 version and of the exact version, for sections with supercritical members
-and without: the mean, and the section that takes the library longest.
+f64 version and of the exact version, for random sections with supercritical
+members and without, for sections with one supercritical tube (two values each)
+and with eight (nine values): the mean, and the section that takes the library
+longest.
 
 file: checks that the proved library and the Rust version write the same bytes
 for the tower files that they read, then prints the megabytes (10^6 bytes) a
@@ -17,9 +20,10 @@ which the library fetches a field of two or four bytes of it, byte by byte and a
 one number; these numbers are compared with the Rust version's too.
 
 calls: checks that the proved library and the exact Rust version report the same
-numbers for largest towers, then prints the nanoseconds per report of the library,
-of a plain f64 version and of the exact version; and those per hang or take down
-with 63 items hung, and per erect, of the library and of the Rust version.
+numbers for largest towers, with four supercritical tubes a section, with one and
+without, then prints the nanoseconds per report of the library, of a plain f64
+version and of the exact version; and those per hang or take down with 63 items
+hung, and per erect, of the library and of the Rust version.
 
 pipe: starts the service program and prints how many requests a second it answers
 through a pipe: hangings and take-downs, reports, and round trips, each of which
@@ -29,13 +33,16 @@ beside those of a fresh tower. Every answer is compared.
 
 Without one of the four words all. All figures but those of the ten million are
 the best of several repetitions in one run. Status 1 if a number, a byte or an
-answer differs.
+answer differs, but for what --changed allows.
 
   --each            also print a line for each section, for smaller files and
                     towers, and for each million
   --beside          with force, file or calls: also compare the libraries that
                     reference/benchmark --beside FOLDER links, and time each by
-                    turns with this repository's
+                    turns with this repository's; of the sections the mean, and
+                    the one with the greatest ratio
+  --changed         with --beside: where those libraries differ, say in how many
+                    works and time them all the same
   --towerd PROGRAM  the service program that pipe starts
   --help            print this
 ";
@@ -83,6 +90,8 @@ pub struct Run {
     pub each: bool,
     /// With the libraries beside.
     pub beside: bool,
+    /// Those may differ.
+    pub changed: bool,
     /// The service program; empty where none is named and none is needed.
     pub towerd: String,
 }
@@ -109,6 +118,7 @@ pub fn parse(words: &[String], linked: Parts) -> Result<Command, String> {
             "pipe" => run.parts.pipe = true,
             "--each" => run.each = true,
             "--beside" => run.beside = true,
+            "--changed" => run.changed = true,
             "--towerd" => run.towerd = words.next().ok_or("--towerd names no program")?.clone(),
             "--help" => return Ok(Command::Help),
             other => return Err(format!("unknown word: {other}")),
@@ -122,6 +132,8 @@ pub fn parse(words: &[String], linked: Parts) -> Result<Command, String> {
     }
     if run.beside {
         all_beside(run.parts, linked)?;
+    } else if run.changed {
+        return Err("--changed goes with --beside".into());
     }
     Ok(Command::Run(run))
 }

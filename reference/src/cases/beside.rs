@@ -1,5 +1,6 @@
-//! Items that take a force to a whole number of newtons, or beside one by as
-//! little as items allow: there the smallest error changes the answer.
+//! Items that take the formula's value at one pressure to a whole number of
+//! newtons, or beside one by as little as items allow: where that pressure
+//! governs, the smallest error changes the answer.
 
 use super::{Case, UNITS};
 use crate::plain;
@@ -23,18 +24,25 @@ const PLACES: [(u32, u16, u16); 4] = [
 /// Widths that an item can have.
 const WIDTHS: u64 = 3_000;
 
-/// The case with items more: in the middle so that the force just does not pass
-/// a whole number of newtons, before that with the least taken off, and after
-/// it with the least more.
+/// The case with items more: in the middle so that the value at full pressure
+/// just does not pass a whole number of newtons, before that with the least
+/// taken off, and after it with the least more.
 pub fn beside_whole(case: &Case) -> [Case; 3] {
+    beside_whole_at(case, case.pressure())
+}
+
+/// The same for the value at this pressure.
+pub fn beside_whole_at(case: &Case, pressure: u16) -> [Case; 3] {
     // more than two newtons
-    let mut too_much = 2 * UNITS / case.factored_pressure() + 1;
+    let factored = u64::from(pressure) * u64::from(case.wind.structure_factor);
+    let mut too_much = 2 * UNITS / factored + 1;
     let mut counts = 1..=MOST_ADDED;
     let enough = counts.find(|count| WIDTHS.pow(*count as u32) > too_much);
     let count = enough.expect("places for two newtons");
-    let Force(least) = with_more(case, count, 0).exact_force().least_whole();
+    let value = |sum| with_more(case, count, sum).formula(pressure);
+    let Force(least) = value(0).least_whole();
     let whole = Force(least + 1);
-    let fits = |sum| with_more(case, count, sum).exact_force().is_at_most(whole);
+    let fits = |sum| value(sum).is_at_most(whole);
     let mut most = 0;
     while too_much - most > 1 {
         let middle = most + (too_much - most) / 2;
@@ -47,17 +55,23 @@ pub fn beside_whole(case: &Case) -> [Case; 3] {
     [most - 1, most, most + 1].map(|sum| with_more(case, count, sum))
 }
 
-/// Whether the force is a whole number of newtons up to this part of it, in
-/// plain floating point: a sieve for draws, with exact arithmetic behind it.
+/// Whether the force at full pressure is a whole number of newtons up to this
+/// part of it, in plain floating point: a sieve for draws, with exact arithmetic
+/// behind it.
 pub fn is_nearly_whole(case: &Case, part: f64) -> bool {
     let (legs, items) = (case.tower.legs, case.item_sum() as f64 / 1e12);
-    let force = plain::force(legs, case.section(), &case.wind, case.pressure(), items);
+    let force = plain::formula(legs, case.section(), &case.wind, case.pressure(), items);
     (force - force.round()).abs() <= part * force
 }
 
-/// Whether the exact force is a whole number of newtons.
+/// Whether the exact force at full pressure is a whole number of newtons.
 pub fn is_whole(case: &Case) -> bool {
-    let exact = case.exact_force();
+    is_whole_at(case, case.pressure())
+}
+
+/// Whether the formula's value at this pressure is a whole number of newtons.
+pub fn is_whole_at(case: &Case, pressure: u16) -> bool {
+    let exact = case.formula(pressure);
     let Force(least) = exact.least_whole();
     exact.compare(&Rational::whole(least)).is_eq()
 }

@@ -1,7 +1,8 @@
 //! Forces with a root that are near a whole number of newtons: as they were
-//! drawn, and by items.
+//! drawn, and by items. Full pressure governs all of them.
 
 use super::beside::{beside_whole, is_nearly_whole};
+use super::governing::full_governs;
 use super::ratios::{self, Members};
 use super::samples::under;
 use super::ways::{known_way, Way};
@@ -23,8 +24,7 @@ pub fn cases() -> Vec<Case> {
     for legs in [Legs::Three, Legs::Four] {
         for face in FACES {
             for _ in 0..3 {
-                let [_, at_most, above] = beside_whole(&face(&mut random, legs));
-                cases.extend([at_most, above]);
+                cases.extend(by_items(&mut random, legs, face));
             }
         }
         for face in &FACES[..4] {
@@ -34,10 +34,21 @@ pub fn cases() -> Vec<Case> {
     cases
 }
 
+/// At most a whole number of newtons, and above it, by as little as items allow.
+fn by_items(random: &mut Random, legs: Legs, face: Face) -> [Case; 2] {
+    let beside = || {
+        let [_, at_most, above] = beside_whole(&face(random, legs));
+        [at_most, above]
+    };
+    until(beside, |cases| cases.iter().all(full_governs))
+}
+
 /// Draws until the bounds do not decide the force.
 fn near(random: &mut Random, legs: Legs, face: Face) -> Case {
     let part = 1.0 / f64::from(1 << 29);
-    let wanted = |case: &Case| is_nearly_whole(case, part) && known_way(case) == Some(Way::Squares);
+    let wanted = |case: &Case| {
+        is_nearly_whole(case, part) && known_way(case) == Some(Way::Squares) && full_governs(case)
+    };
     until(|| face(random, legs), wanted)
 }
 

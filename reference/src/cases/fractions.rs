@@ -1,7 +1,8 @@
 //! Whole forces of faces whose root is a fraction, and of faces without a root
-//! whose solidity ratio is no decimal number.
+//! whose solidity ratio is no decimal number. Full pressure governs all of them.
 
 use super::beside::{beside_whole, is_nearly_whole, is_whole};
+use super::governing::full_governs;
 use super::ratios::{cast, Members};
 use super::samples::under;
 use super::{Case, UNITS};
@@ -38,7 +39,7 @@ const DECIMAL_ROOTS: [(u32, u16, u32, u32); 17] = [
     (0, 5_000, 2_000, 2_400),
     (6, 1_000, 1_250, 2_400),
     (0, 5_000, 2_000, 29_000),
-    (12, 100, 2_000, 29_000),
+    (12, 200, 2_000, 29_000),
     (1, 2_500, 1_000, 29_000),
     (17, 5_000, 2_000, 29_000),
     (2, 1_000, 1_250, 29_000),
@@ -103,7 +104,7 @@ fn rooted(random: &mut Random, legs: Legs, slope: (u32, u32)) -> Case {
         let [_, at_most, _] = beside_whole(&loaded(random, legs, face, 0, pressures, 1));
         at_most
     };
-    until(draw, is_whole)
+    until(draw, |case| is_whole(case) && full_governs(case))
 }
 
 /// c is `taken` over `parts`, and φ is `solid` over `parts` times p² + q². The
@@ -186,7 +187,7 @@ fn rootless(
 /// Whether a whole force without items is that of a whole number of millionths
 /// of mm².
 fn is_in_millionths(case: &Case) -> bool {
-    let Force(force) = case.exact_force().least_whole();
+    let Force(force) = case.full_force().least_whole();
     let units = u128::from(force) * u128::from(UNITS);
     units.is_multiple_of(case.factored_pressure().into())
 }

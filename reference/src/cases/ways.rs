@@ -1,15 +1,16 @@
-//! What decides a case's force in the proved program: bounds on both sides of
-//! it, or an exact comparison where a whole number of newtons is within them.
+//! What decides a case's force at full pressure in the proved program: bounds on
+//! both sides of it, or an exact comparison where a whole number of newtons is
+//! within them. The lesser winds have no part in it.
 
 use super::{Case, UNITS};
 use crate::areas::areas;
 use crate::draw::until;
-use crate::force::ExactForce;
+use crate::force::Rooted;
 use crate::rational::Rational;
 use crate::units::{Area, Force};
 use std::cmp::Ordering;
 
-/// What a force is decided by.
+/// What a force at full pressure is decided by.
 #[derive(Clone, Copy, Debug, PartialEq, Eq, PartialOrd, Ord)]
 pub enum Way {
     /// There is no force without pressure.
@@ -35,7 +36,7 @@ pub fn known_way(case: &Case) -> Option<Way> {
     if case.pressure() == 0 {
         return Some(Way::NoPressure);
     }
-    let exact = case.exact_force();
+    let exact = case.full_force();
     let Force(least) = exact.least_whole();
     let between = [least - 1, least].map(Rational::whole);
     let reach = Reach::of(case, &between);
@@ -55,7 +56,8 @@ pub fn drawn(draw: impl FnMut() -> Case) -> Case {
     until(draw, |case| known_way(case).is_some())
 }
 
-/// The last line that is printed: how many forces each way decided.
+/// The last line that is printed: how many forces at full pressure each way
+/// decided.
 pub fn decided(ways: &[Way]) -> String {
     let count = |way: Way| ways.iter().filter(|other| **other == way).count();
     format!(
@@ -67,7 +69,7 @@ pub fn decided(ways: &[Way]) -> String {
     )
 }
 
-/// How far the bounds are from the exact force on each side.
+/// How far the bounds are from the exact force at full pressure on each side.
 struct Reach {
     least: Rational,
     most: Rational,
@@ -89,7 +91,7 @@ impl Reach {
 
 /// How the exact force compares with what is so much above the one number and
 /// so much below the other.
-fn beside(exact: &ExactForce, [below, above]: &[Rational; 2], by: &Rational) -> [Ordering; 2] {
+fn beside(exact: &Rooted, [below, above]: &[Rational; 2], by: &Rational) -> [Ordering; 2] {
     [below + by, above - by].map(|end| exact.compare(&end))
 }
 

@@ -1,11 +1,13 @@
-//! Exact forces that are a whole number of newtons, and forces beside one.
+//! Exact forces that are a whole number of newtons, and forces beside one. Full
+//! pressure governs all of them.
 
 use super::beside::{beside_whole, MOST_ADDED};
 use super::extremes::{largest_with, turned};
+use super::governing::full_governs;
 use super::ratios::{self, Members};
 use super::samples::{sample_cases, under};
 use super::Case;
-use crate::draw::{self, Random, EXACT_SOLIDITY};
+use crate::draw::{self, until, Random, EXACT_SOLIDITY};
 use crate::sample::{flat, round, sample, section, tower};
 use crate::tower::{Legs, Tower, MOST_ITEMS};
 use crate::units::Length;
@@ -13,6 +15,7 @@ use crate::units::Length;
 /// Whole forces, then forces beside a whole number of newtons.
 pub fn cases() -> Vec<Case> {
     let mut bases = sample_cases();
+    bases.retain(full_governs);
     bases.extend(rooted());
     bases.extend(heaviest());
     let beside = bases.iter().flat_map(beside_whole);
@@ -50,11 +53,12 @@ fn rooted() -> Vec<Case> {
     let mut cases = Vec::new();
     for legs in [Legs::Three, Legs::Four] {
         for members in [Members::Supercritical, Members::Mixed] {
-            for _ in 0..16 {
+            let mut draw = || {
                 let ratio = random.pick(&EXACT_SOLIDITY);
                 let direction = draw::direction(&mut random, legs);
-                cases.push(ratios::case(&mut random, ratio, legs, members, direction));
-            }
+                ratios::case(&mut random, ratio, legs, members, direction)
+            };
+            cases.extend((0..16).map(|_| until(&mut draw, full_governs)));
         }
     }
     cases

@@ -7,12 +7,15 @@ use std::fmt::Display;
 /// The types of the cases, and short names for their parts.
 const HEAD: &str = include_str!("../../definitions/Vectors.antt.in");
 
-/// The first line says how many cases there are.
+/// The first line says how many cases there are, how many forces are those of a
+/// lesser wind, and how many are not though there is one.
 pub fn table(vectors: &Vectors) -> String {
     let (towers, files) = (&vectors.towers, &vectors.files);
     let (lists, hosts) = (&vectors.lists, &vectors.hosts);
+    let (governed, not_governed) = vectors.lesser_winds();
     format!(
-        "-- {} towers, {} files, {} lists of calls, {} host calls\n{HEAD}{}{}{}{}",
+        "-- {} towers with {governed} forces of lesser winds and {not_governed} of full pressure beside them, \
+         {} files, {} lists of calls, {} host calls\n{HEAD}{}{}{}{}",
         towers.len(),
         files.len(),
         lists.len(),

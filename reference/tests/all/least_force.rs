@@ -2,7 +2,7 @@
 
 use crate::common::{decimal, random_service, rows};
 use reference::draw::Random;
-use reference::force::{exact_force, ExactForce};
+use reference::force::{exact_force, Rooted};
 use reference::rational::Rational;
 use reference::units::Force;
 use std::cmp::Ordering;
@@ -41,7 +41,7 @@ fn roots_of_whole_numbers() {
             root += 1;
         }
         let a = root + u64::from(random.within(0, 50_000));
-        let exact = ExactForce::new(Rational::whole(a), &Rational::whole(c), &Rational::whole(r));
+        let exact = Rooted::new(Rational::whole(a), &Rational::whole(c), &Rational::whole(r));
         assert_eq!(exact.least_whole(), Force(a - root), "{a} - {c} sqrt {r}");
     }
 }
@@ -50,24 +50,24 @@ fn roots_of_whole_numbers() {
 fn a_whole_exact_force_is_reported_as_it_is() {
     let zero = Rational::whole(0);
     for whole in [0, 1, 2, 3, 4, 7, 8, 9, 4_080, 1 << 40] {
-        let exact = ExactForce::new(Rational::whole(whole), &zero, &zero);
+        let exact = Rooted::new(Rational::whole(whole), &zero, &zero);
         assert_eq!(exact.least_whole(), Force(whole));
     }
-    let above = ExactForce::new(decimal("4080.000000000001"), &zero, &zero);
+    let above = Rooted::new(decimal("4080.000000000001"), &zero, &zero);
     assert_eq!(above.least_whole(), Force(4_081));
-    let below = ExactForce::new(decimal("4079.999999999999"), &zero, &zero);
+    let below = Rooted::new(decimal("4079.999999999999"), &zero, &zero);
     assert_eq!(below.least_whole(), Force(4_080));
 }
 
 #[test]
 fn comparing_with_fractions_is_exact() {
     // 10 - 2 sqrt(4) = 6, and 10 - sqrt(2) = 8.585 786 437 62...
-    let six = ExactForce::new(decimal("10"), &decimal("2"), &decimal("4"));
+    let six = Rooted::new(decimal("10"), &decimal("2"), &decimal("4"));
     assert_eq!(six.compare(&decimal("6")), Ordering::Equal);
     assert_eq!(six.compare(&decimal("5.999")), Ordering::Greater);
     assert_eq!(six.compare(&decimal("6.001")), Ordering::Less);
     assert_eq!(six.compare(&decimal("11")), Ordering::Less);
-    let root = ExactForce::new(decimal("10"), &decimal("1"), &decimal("2"));
+    let root = Rooted::new(decimal("10"), &decimal("1"), &decimal("2"));
     assert_eq!(root.compare(&decimal("8.58578643762")), Ordering::Greater);
     assert_eq!(root.compare(&decimal("8.58578643763")), Ordering::Less);
 }

@@ -20,6 +20,8 @@ mod formula;
 mod header;
 mod host;
 mod least_force;
+mod lesser_cases;
+mod lesser_winds;
 mod lists;
 mod lists_draws;
 mod lists_million;

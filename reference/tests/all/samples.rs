@@ -6,10 +6,10 @@ use crate::common::{
 };
 use reference::areas::{areas, flow, Flow};
 use reference::file;
-use reference::force::{exact_force, radicand, solidity_ratio};
+use reference::force::{exact_force, formula, radicand, solidity_ratio};
 use reference::refusal::Refusal;
 use reference::tower::{Legs, Member, Tower};
-use reference::units::Length;
+use reference::units::{Force, Length};
 use std::cmp::Ordering;
 
 /// Checks the exact force of the only section and the reported one.
@@ -118,7 +118,10 @@ fn a_round_of_150_turns_supercritical_above_1000() {
     wind.pressures[0] = 1_001;
     let above = rows(&under_wind(&tower, &wind));
     assert_eq!(above[..3], [0, 0, 1_500_000]);
-    assert!(above[3] < sub[3]);
+    // 1 000 governs
+    assert_eq!(above[3], sub[3]);
+    let alone = formula(&tower, &wind, 0, 1_001).least_whole();
+    assert_eq!(alone, Force(2_011));
 }
 
 #[test]

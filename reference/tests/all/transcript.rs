@@ -107,11 +107,44 @@ fn the_starred_samples() {
     // c_c of phi = 0.125 times 1.5 m2, then c_p with the root of 0.315
     let subcritical = row([0, 1_500_000, 0], 2_816, 6_000);
     reports("Round 150 by 10 000: q = 1 000 subcritical", &subcritical);
-    let supercritical = row([0, 0, 1_500_000], 2_011, 6_000);
+    // 1 000 governs, and the areas are those at 1 001
+    let supercritical = row([0, 0, 1_500_000], 2_816, 6_000);
     reports(
         "Round 150 by 10 000: q = 1 001 supercritical",
         &supercritical,
     );
+}
+
+/// Request M-103: the triangle's sample, and three sections of which each of
+/// the pressures 1 200, 1 000 and 250 governs one.
+#[test]
+fn lesser_winds_govern_where_they_have_the_greatest_force() {
+    let round = |areas, force| row(areas, force, 5_000);
+    reports(
+        "Three legs, h = 5 000, round 300 by 6 100, q = 250",
+        &round([0, 1_830_000, 0], 690),
+    );
+    reports("q = 251", &round([0, 0, 1_830_000], 690));
+    reports("q = 1 000", &round([0, 0, 1_830_000], 1_982));
+    // c_c = 1.7 and c_p = 1.9 - sqrt(0.348) on 1.2 m2 each
+    let c_p = 1.9 - 0.348_f64.sqrt();
+    assert_eq!((1_200.0 * 2.4 * c_p).ceil(), 3_774.0);
+    assert_eq!((1_000.0 * 1.2 * (1.7 + c_p)).ceil(), 3_613.0);
+    let three = |forces: [u64; 3]| {
+        let areas = ["0 0 2400000", "0 0 2400000", "0 1200000 1200000"];
+        let (mut shear, mut moment) = (0, 0);
+        let row = |(areas, force): (&str, u64)| {
+            moment += 6_000 * shear + 3_000 * force;
+            shear += force;
+            format!("\n{areas} {force} {shear} {moment}")
+        };
+        let rows: String = areas.into_iter().zip(forces).map(row).collect();
+        format!("ok 3{rows}")
+    };
+    let title = "Full pressure governs the top section, 1 000 the next, 250 the lowest";
+    reports(title, &three([3_774, 3_613, 1_020]));
+    let title = "The item on the middle section counts in the wind of 1 000 that governs";
+    reports(title, &three([3_774, 4_189, 1_020]));
 }
 
 #[test]

@@ -2,7 +2,9 @@
 
 use crate::common::{beside_tenths, run_program};
 use reference::areas::{areas, gross_face_area};
-use reference::tower::Legs;
+use reference::force::formula;
+use reference::rational::Rational;
+use reference::tower::{Item, Legs};
 use reference::vectors::{Call, TowerCase, Vectors, USAGE};
 use std::collections::BTreeSet;
 
@@ -126,6 +128,45 @@ fn all_directions_and_ice_classes_and_flows_are_there() {
         }
     }
     assert!(mixed >= 20, "{mixed}");
+}
+
+/// Of two and more pressures each governs some; and with items.
+#[test]
+fn lesser_winds_govern_some_forces_and_not_others() {
+    let vectors = Vectors::all();
+    let (mut governed, mut not_governed, mut hung) = (0, 0, 0);
+    for case in &vectors.towers {
+        let sections = case.tower.sections.iter().zip(&case.wind.pressures);
+        for (section, (part, &pressure)) in sections.enumerate() {
+            let ice = case.wind.ice_thickness();
+            let areas = areas(part, ice, pressure);
+            let value = formula(&case.tower, &case.wind, section, pressure);
+            let force = Rational::whole(case.rows[6 * section + 3]);
+            // at least 1 N below the reported force
+            let below = value.compare(&(force - Rational::whole(1))).is_le();
+            let on = |item: &Item| usize::from(item.section) == section;
+            let lesser = areas.supercritical.0 > 0;
+            assert!(lesser || !below, "{case:?}");
+            governed += usize::from(lesser && below);
+            not_governed += usize::from(lesser && !below);
+            hung += usize::from(lesser && below && case.tower.items.iter().any(on));
+        }
+    }
+    assert_eq!(vectors.lesser_winds(), (governed, not_governed));
+    let counts = (governed, not_governed, hung);
+    assert!(
+        governed >= 50 && not_governed >= 100 && hung >= 10,
+        "{counts:?}"
+    );
+    let said = format!(
+        "with {governed} forces of lesser winds and {not_governed} of full pressure beside them, "
+    );
+    assert!(vectors
+        .table()
+        .lines()
+        .next()
+        .expect("a line")
+        .contains(&said));
 }
 
 /// Runs the binary itself.

@@ -3,7 +3,7 @@
 use crate::cases::texts;
 use crate::common::{flat, item, round, sample, sample_wind, section, tower};
 use reference::areas::{areas, gross_face_area, Areas};
-use reference::cases::{all, decided, known_way, way, Case, Way};
+use reference::cases::{all, decided, full_governs, known_way, way, Case, Way};
 use reference::plain;
 use reference::rational::Rational;
 use reference::tower::{Item, Legs, Member, Tower};
@@ -189,13 +189,14 @@ fn open(case: &Case) -> u64 {
     gross_face_area(case.section()).0 - solid_areas(case).solid().0
 }
 
-/// How far the plain force is from a whole number, up to rounding.
+/// How far the plain force at full pressure is from a whole number, up to
+/// rounding.
 #[test]
 fn the_plain_force_is_as_near_or_far() {
     for (case, way) in told() {
         let (tower, items) = (&case.tower, case.item_sum() as f64 / 1e12);
         let pressure = case.pressure();
-        let force = plain::force(tower.legs, case.section(), &case.wind, pressure, items);
+        let force = plain::formula(tower.legs, case.section(), &case.wind, pressure, items);
         let factored = case.factored_pressure() as f64;
         let face = force - factored / 1e3 * items;
         let distance = (force - force.round()).abs();
@@ -214,20 +215,21 @@ fn the_plain_force_is_as_near_or_far() {
     }
 }
 
-/// The force if it is a whole number of newtons exactly.
+/// The force at full pressure if it is a whole number of newtons exactly.
 fn whole(case: &Case) -> Option<u64> {
-    let exact = case.exact_force();
+    let exact = case.full_force();
     let Force(least) = exact.least_whole();
     let order = exact.compare(&Rational::whole(least));
     (order == Ordering::Equal).then_some(least)
 }
 
+/// Full pressure governs them, so that they are printed.
 #[test]
 fn whole_forces_with_a_root_are_on_both_shapes() {
     for (legs, least, directions) in [(Legs::Three, 16, 8), (Legs::Four, 33, 16)] {
         let these = by(Way::Squares).filter(|case| case.tower.legs == legs);
         let these: Vec<&Case> = these
-            .filter(|case| open(case) > 0 && whole(case).is_some())
+            .filter(|case| open(case) > 0 && whole(case).is_some() && full_governs(case))
             .collect();
         assert!(these.len() >= least, "{legs:?}: {}", these.len());
         let found: BTreeSet<u32> = these.iter().map(|case| case.wind.direction).collect();
@@ -256,11 +258,12 @@ fn whole_forces_of_faces_that_are_not_in_millionths() {
 }
 
 /// Of the largest, thin, nearly full, nearly empty and mixed faces, each on
-/// both shapes; and whether items took the force beside a whole number.
+/// both shapes; and whether items took the force beside a whole number. Full
+/// pressure governs them.
 #[test]
 fn forces_with_a_root_near_a_whole_number_are_of_every_kind() {
     let mut counts = [[0; 5]; 4];
-    for case in by(Way::Squares).filter(|case| whole(case).is_none()) {
+    for case in by(Way::Squares).filter(|case| whole(case).is_none() && full_governs(case)) {
         let (section, areas) = (case.section(), solid_areas(case));
         let (width, height) = (section.width.0, section.height.0);
         let kinds = [

@@ -19,14 +19,18 @@ array-read-sum c = search needs
 legs-of-requires : tie.Need-legs-of-requires
 legs-of-requires c κs = search needs
 
-decided-load-requires : tie.Need-decided-load-requires
-decided-load-requires c κs =
+-- the case as both loads ask for it
+section-load-requires : tie.Need-section-load-requires
+section-load-requires c κs =
     let s = c .before .before .before .before .before .pre .0 in
     let f = rw (← c .before .before .before .thickness .ensures) at (s .fits) in
     (f, s .factor, s .pressure, c .before .before .item-sums .ensures .small 0 (omega arith))
 
 put-load-requires : tie.Need-put-load-requires
 put-load-requires c κs = search needs
+
+formula-load-requires : tie.Need-formula-load-requires
+formula-load-requires c κs = section-load-requires (c .before .before .before .before .before) κs
 
 same-length : tie.Need-same-length
 same-length c = search needs
@@ -42,7 +46,8 @@ answer-case-spec =
     item-sums-requires
     array-read-sum
     legs-of-requires
-    decided-load-requires
+    section-load-requires
     put-load-requires
+    formula-load-requires
     same-length
     returns)

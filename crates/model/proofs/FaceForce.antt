@@ -1,4 +1,4 @@
--- The exact force is a number and is not negative, wherever 0 < A_S ≤ A_u.
+-- The force on a face with 0 < A_S ≤ A_u is a number and is not negative.
 use Prim.Native.Nat.{ℕ, suc, _+_, _*_, _≤_, _<_}
 use mathlib.Core.Path.{_≡_, refl}
 use mathlib.Core.Bool.{Bool, true, false, cond}
@@ -6,17 +6,17 @@ use native.Mathlib.Omega.{arith}
 use native.Mathlib.Nat.{mul-pos, mul-le-mul, mul-le-mul-left, le-trans, le-of-eq}
 use Rattle.units.specs.declared.Area.{Area}
 use Rattle.exact.specs.Fraction.{Fraction, _//_, whole, _≼ᵇ_, Proper}
-use Rattle.exact.specs.Number.{AtMost, Sound}
+use Rattle.exact.specs.Rooted.{_≼√_, Defined}
 use Rattle.exact.proofs.Arithmetic.{·-proper, ⊕-proper, ⊖-proper, //-proper, whole-proper}
-use Rattle.exact.proofs.Compare.{⊞-sound, ⊙-sound, same-sym, at-most-same}
-use Rattle.exact.proofs.Surds.{number-sound, number-nonneg}
+use Rattle.exact.proofs.Compare.{⊞-defined, ⊙-defined, same-sym, below-same}
+use Rattle.exact.proofs.Surds.{number-defined, number-nonneg}
 use Rattle.model.specs.declared.Legs.{Legs}
 use Rattle.model.specs.declared.Legs.the-variants.{Three, Four}
 use Rattle.model.specs.declared.Areas.{Areas}
 use Rattle.model.specs.Areas.{solid}
-use Rattle.model.specs.Force.{m², solidity, C1, C2, c-f, c-c, c-p, K1, K2, s, Kθ, resistance, exact}
+use Rattle.model.specs.Force.{m², solidity, C1, C2, c-f, c-c, c-p, K1, K2, s, Kθ, resistance, faceForce}
 use Rattle.model.specs.WholeForm.{grossOf, incidenceDen, incidenceNum, faceDen, supercriticalNum, faceNum, rootNum, wholeForm}
-use Rattle.model.proofs.WholeForm.{exact-whole}
+use Rattle.model.proofs.WholeForm.{face-whole}
 
 -- no denominator is 0
 lit : (n d : ℕ) → Proper (n // suc d)
@@ -69,9 +69,9 @@ module _ (l : Legs) (φ : Fraction) (c : Proper φ) where
       ⊕-proper _ _ (·-proper _ _ (C1-proper l) (⊖-proper _ _ (whole-proper 1) (·-proper _ _ (C2-proper l) c)))
       (·-proper _ _ (⊕-proper _ _ (C1-proper l) (lit 875 999)) (·-proper _ _ c c))
 
-  c-p-sound : Sound (c-p l φ)
+  c-p-defined : Defined (c-p l φ)
   unfolding c-p
-  c-p-sound =
+  c-p-defined =
       record {
         rational = lit 19 9;
         factor = whole-proper 1;
@@ -84,19 +84,19 @@ m²-proper : (a : Area) → Proper (m² a)
 unfolding m²
 m²-proper a = lit _ 999_999
 
-pub exact-sound : (l : Legs) (k factor q : ℕ) (u : Area) (a : Areas) (items : ℕ) → 0 < u .0 → 0 < solid a .0 → Sound (exact l k factor q u a items)
-unfolding exact resistance solidity
-exact-sound l k factor q u a items hu hs =
+pub face-defined : (l : Legs) (k factor q : ℕ) (u : Area) (a : Areas) (items : ℕ) → 0 < u .0 → 0 < solid a .0 → Defined (faceForce l k factor q u a items)
+unfolding faceForce resistance solidity
+face-defined l k factor q u a items hu hs =
     let c : Proper (solid a .0 // u .0) = //-proper _ _ hu in
-    ⊙-sound (·-proper _ _ (whole-proper q) (lit _ 999))
-    (⊞-sound (lit _ 999_999_999_999)
-    (⊙-sound (incidence-proper l k a _ c hs)
-    (⊞-sound
+    ⊙-defined (·-proper _ _ (whole-proper q) (lit _ 999))
+    (⊞-defined (lit _ 999_999_999_999)
+    (⊙-defined (incidence-proper l k a _ c hs)
+    (⊞-defined
     (⊕-proper _ _ (·-proper _ _ (c-f-proper l _ c) (m²-proper (a .flat))) (·-proper _ _ (c-c-proper l _ c) (m²-proper (a .subcritical))))
-    (⊙-sound (m²-proper (a .supercritical)) (c-p-sound l _ c)))))
+    (⊙-defined (m²-proper (a .supercritical)) (c-p-defined l _ c)))))
 
--- 0 ≤ exact: the root takes away at most 1.9 A_p
-nonneg-law : (A p U N c top : ℕ) → N ≤ c * c * (U * U) → A * (c * (U * U) * p) ≤ top → A * p * U * (A * p * U) * N ≤ top * top
+-- not negative: the root takes away at most 1.9 A_p
+pub nonneg-law : (A p U N c top : ℕ) → N ≤ c * c * (U * U) → A * (c * (U * U) * p) ≤ top → A * p * U * (A * p * U) * N ≤ top * top
 nonneg-law A p U N c top h g =
     let k : _ = mul-le-mul-left (A * p * U * (A * p * U)) h in
     let m : _ = mul-le-mul g g in
@@ -146,8 +146,8 @@ module _ (l : Legs) (k factor q : ℕ) (a : Areas) (e items : ℕ) where
   den-positive h =
       mul-pos (mul-pos (incidence-positive l (solid a .0) e h) (face-positive l (solid a .0 + e) (omega arith))) (omega arith)
 
-  pub exact-nonneg : 0 < solid a .0 → AtMost (whole 0) (exact l k factor q (grossOf a e) a items)
-  exact-nonneg h =
+  pub face-nonneg : 0 < solid a .0 → whole 0 ≼√ faceForce l k factor q (grossOf a e) a items
+  face-nonneg h =
       let d : _ = den-positive h in
-      at-most-same (number-sound _ d) (same-sym (exact-whole l k factor q a e items)) (whole 0) (whole-proper 0)
+      below-same (number-defined _ d) (same-sym (face-whole l k factor q a e items)) (whole 0) (whole-proper 0)
       (number-nonneg _ d radicand-small)
