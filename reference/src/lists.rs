@@ -1,11 +1,12 @@
-//! Drawn lists of calls, sound and damaged, and millions of hangings and take-downs
-//! on one tower: what the program `lists` prints.
+//! Drawn lists of calls, sound and damaged, millions of hangings and take-downs on one
+//! tower, and another one under rising pressures: what the program `lists` prints.
 
 mod answers;
 mod calls;
 mod draws;
 mod files;
 mod million;
+mod pressures;
 
 use crate::file_cases::digest;
 use crate::outputs::OutputFile;
@@ -17,6 +18,7 @@ pub use answers::{Answer, LENT_BYTE, LENT_NUMBER, NONE_OVER};
 pub use draws::{Draws, Key};
 pub use files::{sound_file, Size};
 pub use million::{million, Million, HUNG};
+pub use pressures::{pressures, wind, Pressures, SECTIONS};
 
 /// How many lists there are.
 pub const LISTS: u64 = 2_000;
@@ -65,7 +67,7 @@ pub fn all_lists() -> Vec<Vec<Step>> {
 }
 
 /// What the program prints.
-pub fn text(lists: &[Vec<Step>], million: &Million) -> String {
+pub fn text(lists: &[Vec<Step>], million: &Million, pressures: &Pressures) -> String {
     let mut lines = String::new();
     let mut counts = [0; ANSWERS];
     for (place, steps) in lists.iter().enumerate() {
@@ -76,7 +78,7 @@ pub fn text(lists: &[Vec<Step>], million: &Million) -> String {
         let accepted = counts[0] - before;
         lines += &line("list", [place as u64, accepted, list_digest(steps)]);
     }
-    lines + &counts_text("answer", &counts) + &million.text()
+    lines + &counts_text("answer", &counts) + &million.text() + &pressures.text()
 }
 
 /// A name, and numbers behind it.
@@ -97,6 +99,6 @@ fn counts_text(name: &str, counts: &Counts) -> String {
 pub fn files() -> Vec<OutputFile> {
     vec![OutputFile {
         name: "stdout",
-        bytes: text(&all_lists(), &million()).into_bytes(),
+        bytes: text(&all_lists(), &million(), &pressures()).into_bytes(),
     }]
 }

@@ -40,6 +40,11 @@ pub fn rows(tower: &Tower, wind: &Wind) -> Vec<Row> {
     let forces: Vec<Force> = (0..tower.sections.len())
         .map(|section| exact_force(tower, wind, section).least_whole())
         .collect();
+    rows_with(tower, wind, &forces)
+}
+
+/// The rows with these reported forces.
+pub fn rows_with(tower: &Tower, wind: &Wind, forces: &[Force]) -> Vec<Row> {
     let row = |section: usize| Row {
         areas: areas(
             &tower.sections[section],
@@ -48,7 +53,7 @@ pub fn rows(tower: &Tower, wind: &Wind) -> Vec<Row> {
         ),
         force: forces[section],
         shear: forces[..=section].iter().copied().sum(),
-        moment: moment(&tower.sections, &forces, section),
+        moment: moment(&tower.sections, forces, section),
     };
     (0..tower.sections.len()).map(row).collect()
 }

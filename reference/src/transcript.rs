@@ -7,13 +7,14 @@ mod histories;
 mod lesser;
 mod readers;
 mod refused;
+mod rising;
 mod starred;
 
 use crate::file;
 use crate::outputs::OutputFile;
 use crate::requests::{lines, Program, Request};
 use crate::sample::{flat, sample, sample_wind};
-use crate::tower::{Legs, Tower};
+use crate::tower::{Legs, Tower, Wind};
 
 /// Requests under a title; a heading has none.
 #[derive(Clone, Debug, PartialEq, Eq)]
@@ -43,6 +44,7 @@ pub fn samples() -> Vec<Sample> {
         refused::no_tower(),
         starred::samples(),
         lesser::samples(),
+        rising::samples(),
         further::samples(),
         readers::samples(),
         histories::samples(),
@@ -92,6 +94,14 @@ fn erect(tower: &Tower) -> Request {
 /// The samples' wind on this tower.
 fn wind(tower: &Tower, direction: u32, ice_class: u32) -> Request {
     Request::Wind(sample_wind(tower, direction, ice_class))
+}
+
+/// The samples' wind with these pressures.
+fn blowing(tower: &Tower, pressures: &[u16]) -> Request {
+    Request::Wind(Wind {
+        pressures: pressures.to_vec(),
+        ..sample_wind(tower, 0, 0)
+    })
 }
 
 /// With as much room as the program has.

@@ -5,14 +5,14 @@ use mathlib.Core.Bool.{Bool, true, false, cond}
 use mathlib.Core.List.{List, [], _∷_}
 use mathlib.Core.Logic.{⊎-elim}
 use native.Mathlib.Omega.{arith}
-use native.Mathlib.Nat.{mul-pos, mul-le-mul, mul-le-mul-right}
-use lib.Dec.{eqb, ltb}
+use native.Mathlib.Nat.{mul-pos, mul-le-mul}
+use lib.Dec.{eqb}
 use lib.ListN.{length, getD, take}
 use lib.Seq.{getD-take, length-take-le}
-use borrow.Author.Tests.{ltb-true, ltb-false, lt-ltb, eq-eqb, ne-eqb}
+use borrow.Author.Tests.{eq-eqb, ne-eqb}
 use Rattle.units.specs.declared.Length.{Length}
 use Rattle.exact.proofs.Order.{le-or-lt}
-use Rattle.exact.proofs.Bools.{clash, and-split, and-rest, and-join}
+use Rattle.exact.proofs.Bools.{clash, and-split}
 use Rattle.model.specs.declared.Member.the-variants.{Round}
 use Rattle.model.specs.declared.Group.{Group}
 use Rattle.model.specs.Lists.{anyOf, allOf, joined}
@@ -20,7 +20,7 @@ use Rattle.model.specs.Areas.{flowLimit, isSupercritical, lesserOf, lesserWinds
 use Rattle.model.proofs.Lists.{any-append}
 use Rattle.model.specs.Valid.{groupFits}
 use Rattle.model.proofs.Sections.{none-lesser}
-use Rattle.model.proofs.LesserWinds.{GreatestUnder, greatest-under, positive, less}
+use Rattle.model.proofs.LesserWinds.{GreatestUnder, greatest-under, positive, less, limit-above, limit-over, stays, turns-at}
 use Rattle.areas.specs.LesserPressures.{orNone, weak, Covered}
 
 pub none-is : orNone 0 ≡ []
@@ -30,10 +30,6 @@ none-is = refl
 pub one-is : {p : ℕ} → 0 < p → orNone p ≡ p ∷ []
 unfolding orNone
 one-is {p} h = rw (ne-eqb p 0 (λ e. omega arith))
-
--- the limit that a supercritical diameter is above
-pub limit-above : (t : Length) (q : ℕ) (d : Length) → isSupercritical t q d ≡ true → flowLimit < 2 * q * (d .0 * d .0)
-limit-above t q d h = ltb-true _ _ (and-split (eqb (t .0) 0) _ h .1)
 
 -- the greatest pressure below it: not 0 for a diameter of at most 1 m, and below q
 module _ (q : ℕ) (d : Length) (g : flowLimit < 2 * q * (d .0 * d .0)) where
@@ -54,17 +50,6 @@ module _ (q : ℕ) (d : Length) (g : flowLimit < 2 * q * (d .0 * d .0)) where
 
 -- a round that turns supercritical between p and p + 1 has the lesser wind p under every higher pressure, and no other has
 module _ (t : Length) (p : ℕ) (d : Length) where
-  limit-over : (q : ℕ) → eqb (t .0) 0 ≡ true → isSupercritical t q d ≡ false → 2 * q * (d .0 * d .0) ≤ flowLimit
-  limit-over q z h = ltb-false _ _ (and-rest (eqb (t .0) 0) _ z h)
-
-  stays : (q : ℕ) → p < q → isSupercritical t (p + 1) d ≡ true → isSupercritical t q d ≡ true
-  stays q h e =
-      let k : _ = and-split (eqb (t .0) 0) (ltb flowLimit (2 * (p + 1) * (d .0 * d .0))) e in
-      and-join (k .0) (lt-ltb _ _ (higher (p + 1) q (d .0 * d .0) flowLimit (omega arith) (ltb-true _ _ (k .1))))
-    where
-      higher : (x y s limit : ℕ) → x ≤ y → limit < 2 * x * s → limit < 2 * y * s
-      higher x y s limit l g = omega (arith, mul-le-mul-right s l)
-
   pub not-turned : isSupercritical t p d ≡ true → (q : ℕ) → p < q → false ≡ anyOf (eqb p) (lesserOf t q (Round d))
   unfolding lesserOf
   not-turned h q l = go (isSupercritical t q d) refl
@@ -81,16 +66,12 @@ module _ (t : Length) (p : ℕ) (d : Length) where
     where
       go : (b c : Bool) → isSupercritical t q d ≡ b → isSupercritical t (p + 1) d ≡ c
           → c ≡ anyOf (eqb p) (cond b (flowLimit / (2 * (d .0 * d .0)) ∷ []) [])
-      go true true e f =
-          let z : _ = and-split (eqb (t .0) 0) _ e .0 in
-          let low : _ = greatest q d (limit-above t q d e) .none-above p (limit-over p z h) in
-          let high : _ = greatest-less (p + 1) d (limit-above t (p + 1) d f) in
-          rw (eq-eqb p (flowLimit / (2 * (d .0 * d .0))) (omega arith))
+      go true true e f = rw (eq-eqb p (flowLimit / (2 * (d .0 * d .0))) (sym (turns-at t p d h f)))
       go true false e f =
           let z : _ = and-split (eqb (t .0) 0) _ e .0 in
-          let low : _ = greatest q d (limit-above t q d e) .none-above (p + 1) (limit-over (p + 1) z f) in
+          let low : _ = greatest q d (limit-above t q d e) .none-above (p + 1) (limit-over t (p + 1) d z f) in
           rw (ne-eqb p (flowLimit / (2 * (d .0 * d .0))) (λ k. omega arith))
-      go false true e f = absurd (clash (stays q l f) e)
+      go false true e f = absurd (clash (stays t (p + 1) q d (omega arith) f) e)
       go false false e f = refl
 
 -- of groups: some has it, and so the list has it

@@ -1,15 +1,16 @@
--- What the bands and the sums say of two exact numbers that are fractions, each the greatest of two: the bands of these
--- fractions. So a comparison or a sum that nothing meets, or that everything does, fails here.
+-- What the bands, the sums and the order say of two exact numbers that are fractions, each the greatest of two: what they
+-- say of these fractions. So a comparison or a sum that nothing meets, or that everything does, fails here.
 use Prim.Native.Nat.{ℕ, _+_, _≤_, _<_}
 use mathlib.Core.List.{List, [], _∷_, Forall₂, Forall₂·nil, Forall₂·cons}
 use native.Mathlib.Omega.{arith}
 use lib.Dec.{lit≤}
-use Rattle.exact.specs.Fraction.{Fraction, _//_, whole, _⊕_, _⊖_, _·_, _≼_}
-use Rattle.exact.specs.Rooted.{Rooted, square, over, squared}
-use Rattle.exact.specs.Number.{none, also, this, later, Exact, Sound, AtMost, AtLeast, Within}
+use Rattle.exact.specs.Fraction.{Fraction, _//_, whole, _⊕_, _⊖_, _·_, _≼_, Proper}
+use Rattle.exact.specs.Rooted.{Rooted, square, over, squared, Defined}
+use Rattle.exact.specs.Number.{none, also, this, later, Exact, only, Sound, AtMost, AtLeast, NotAbove, Equal, Within}
 use Rattle.exact.specs.Sum.{Term, Low, High, total, ExcessBelow}
 use Rattle.exact.proofs.Arithmetic.{//-proper, whole-proper}
-use Rattle.exact.proofs.Greatest.{ordered}
+use Rattle.exact.proofs.Greatest.{ordered, at-most-down, sound-only, at-most-only, at-least-only}
+use Rattle.exact.proofs.Growing.{not-above-by}
 
 -- the greatest of 3 − √4 and 1/2, which is 1; and that of 1/3 and 5/2
 abbrev root : Rooted
@@ -24,13 +25,20 @@ one = root ∷ fraction (1 // 2) ∷ []
 abbrev other : Exact
 other = fraction (1 // 3) ∷ fraction (5 // 2) ∷ []
 
+fraction-defined : {x : Fraction} → Proper x → Defined (fraction x)
+fraction-defined d = record { rational = d; factor = whole-proper 0; radicand = whole-proper 0 }
+
 one-sound : Sound one
 one-sound =
     record {
       each =
           also (record { rational = whole-proper 3; factor = whole-proper 1; radicand = whole-proper 4 })
-          (also (record { rational = //-proper 1 2 (omega arith); factor = whole-proper 0; radicand = whole-proper 0 }) none);
+          (also (fraction-defined (//-proper 1 2 (omega arith))) none);
     }
+
+other-sound : Sound other
+other-sound =
+    record { each = also (fraction-defined (//-proper 1 3 (omega arith))) (also (fraction-defined (//-proper 5 2 (omega arith))) none) }
 
 one-most : AtMost (whole 1) one
 unfolding whole _//_ _⊖_ _·_ square
@@ -75,3 +83,26 @@ excess-example reported excess h =
     let low : _ = h .never-below .sums (whole 1 ∷ 5 // 2 ∷ []) lows in
     let high : _ = h .less-above .sums (whole 1 ∷ 5 // 2 ∷ []) highs in
     (omega (arith, low .cross), omega (arith, high .cross))
+
+-- 1 is not above 5/2, and 5/2 is above 1; 1 is the same number however it is written
+pub order-example : NotAbove one other × (NotAbove other one → ⊥)
+unfolding _//_ whole
+order-example = (
+  not-above-by one-sound other-sound (whole 1) (whole-proper 1) one-least
+      (at-most-down other-sound (whole-proper 1) (//-proper 5 2 (omega arith)) (record { cross = lit≤ tt }) other-most),
+  λ h. over-one (ordered one-sound (//-proper 5 2 (omega arith)) (whole-proper 1) (h .at-most (5 // 2) (//-proper 5 2 (omega arith)) other-most) one-least),
+)
+  where
+    over-one : 5 // 2 ≼ whole 1 → ⊥
+    over-one k = omega (arith, k .cross)
+
+pub equal-example : Equal one (only (fraction (whole 1)))
+unfolding whole _//_ _⊖_ _·_ square
+equal-example =
+    record {
+      not-above = not-above-by one-sound alone (whole 1) (whole-proper 1) one-least (at-most-only (record { under = record { cross = lit≤ tt }; squared = record { cross = lit≤ tt } }));
+      not-below = not-above-by alone one-sound (whole 1) (whole-proper 1) (at-least-only (over (record { cross = lit≤ tt }))) one-most;
+    }
+  where
+    alone : Sound (only (fraction (whole 1)))
+    alone = sound-only (fraction-defined (whole-proper 1))

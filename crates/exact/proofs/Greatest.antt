@@ -9,7 +9,7 @@ use lib.Dec.{leb}
 use borrow.Author.Tests.{leb-true, leb-false}
 use Rattle.exact.specs.Fraction.{Fraction, _//_, whole, _≼_, Proper}
 use Rattle.exact.specs.Rooted.{Rooted, _≼√_, _√≼_, Defined, Same}
-use Rattle.exact.specs.Number.{Every, none, also, this, Exact, only, Sound, AtMost, AtLeast, Least, greater}
+use Rattle.exact.specs.Number.{Every, none, also, Some, this, Exact, only, Sound, AtMost, AtLeast, Least, greater}
 use Rattle.exact.proofs.Arithmetic.{whole-proper}
 use Rattle.exact.proofs.Compare.{√-ordered, √-comparable, √-down, √-up, same-sym, above-same}
 use Rattle.exact.proofs.Lists.{every-join, every-left, every-right, every-or-some, both-every, both-some, some-only}
@@ -24,6 +24,12 @@ sound-join s t = record { each = every-join (s .each) (t .each) }
 -- comparisons with one number, and with the greatest of two
 pub at-most-only : {x : Fraction} {v : Rooted} → x ≼√ v → AtMost x (only v)
 at-most-only h = record { some = this h }
+
+pub only-at-most : {x : Fraction} {v : Rooted} → AtMost x (only v) → x ≼√ v
+only-at-most {x} {v} h = go (h .some)
+  where
+    go : Some (λ u. x ≼√ u) (v ∷ []) → x ≼√ v
+    go (this p) = p
 
 module _ {x : Fraction} where
   pub at-least-only : {v : Rooted} → v √≼ x → AtLeast (only v) x

@@ -4,6 +4,8 @@ pub mod Arithmetic
 pub mod Compare
 pub mod Lists
 pub mod Greatest
+pub mod Multiples
+pub mod Growing
 pub mod Examples
 pub mod Ceiling
 pub mod Sums

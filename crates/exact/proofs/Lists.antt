@@ -1,5 +1,5 @@
 -- What holds of every element of a list, or of some.
-use mathlib.Core.Path.{_≡_, subst}
+use mathlib.Core.Path.{_≡_, ap, subst}
 use mathlib.Core.List.{List, [], _∷_, _++_, map}
 use mathlib.Core.Logic.{_⊎_, inl, inr, ⊎-elim}
 use Rattle.exact.specs.Number.{Every, none, also, Some, this, later}
@@ -21,6 +21,14 @@ module _ {A : Type 0} {P : A → Type 0} where
   every-all f [] = none
   every-all f (a ∷ l) = also (f a) (every-all f l)
 
+  pub some-left : {l : List A} (m : List A) → Some P l → Some P (l ++ m)
+  some-left m (this p) = this p
+  some-left m (later p) = later (some-left m p)
+
+  pub some-right : (l : List A) {m : List A} → Some P m → Some P (l ++ m)
+  some-right [] p = p
+  some-right (a ∷ l) p = later (some-right l p)
+
   -- every element or some, by what holds of each
   pub every-or-some : {Q R : A → Type 0} → ((a : A) → P a → Q a ⊎ R a) → {l : List A} → Every P l → Some Q l ⊎ Every R l
   every-or-some f none = inr none
@@ -37,6 +45,16 @@ module _ {A : Type 0} {P Q R : A → Type 0} (f : (a : A) → P a → Q a → R 
   both-some (also p ps) (this q) = this (f _ p q)
   both-some (also p ps) (later q) = later (both-some ps q)
 
+-- what follows of every element, and of some
+module _ {A : Type 0} {P Q : A → Type 0} (f : (a : A) → P a → Q a) where
+  pub every-then : {l : List A} → Every P l → Every Q l
+  every-then none = none
+  every-then (also p ps) = also (f _ p) (every-then ps)
+
+  pub some-then : {l : List A} → Some P l → Some Q l
+  some-then (this p) = this (f _ p)
+  some-then (later p) = later (some-then p)
+
 -- what holds of some element, where it holds of none but for C
 pub some-only : {A : Type 0} {P : A → Type 0} {C : Type 0} → ((a : A) → P a → C) → {l : List A} → Some P l → C
 some-only f (this p) = f _ p
@@ -50,3 +68,7 @@ every-mapped f h (also p ps) = also (h _ p) (every-mapped f h ps)
 pub every-at : {A B : Type 0} {Q : B → Type 0} (f : A → B) {a : A} {l : List A} → Some (λ r. r ≡ a) l → Every Q (map f l) → Q (f a)
 every-at {Q = Q} f (this e) (also h hs) = subst (λ r. Q (f r)) e h
 every-at f (later s) (also h hs) = every-at f s hs
+
+pub some-mapped : {A B : Type 0} (f : A → B) {a : A} {l : List A} → Some (λ r. r ≡ a) l → Some (λ r. r ≡ f a) (map f l)
+some-mapped f (this e) = this (ap f e)
+some-mapped f (later s) = later (some-mapped f s)

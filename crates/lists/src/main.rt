@@ -5,8 +5,10 @@
 //     answer NUMBER COUNT
 // Then it runs a list of 3 000 000 hangings and take-downs on one tower under a wind, at whose end the items of its start hang again in another
 // order. It prints the report before the list, within it and after it, a line `start`, `amid` or `end` for each section's row and then a digest;
-// how often each answer came, as `million NUMBER COUNT`; and last, as `equal COUNT`, how many of the 36 numbers of the first report and the last are
-// equal.
+// how often each answer came, as `million NUMBER COUNT`; and, as `equal COUNT`, how many of the 36 numbers of the first report and the last are equal.
+// Last it puts another tower under 15 001 winds, one after the other, each with 1 N/m² more on one section. It prints the report at every 1 000 N/m²,
+// a line `pressed` for each section's row; a digest of all reports; and, as `compared MORE SAME LESS`, how many forces, shears and moments were more
+// than in the report before, the same, and less.
 ghost use mathlib.Core.Path.{_≡_};
 ghost use Prim.Native.Nat.{_+_, _%_, _^_};
 ghost use lib.ListN.{getD, set};
@@ -14,12 +16,20 @@ ghost use Rattle.model.specs.Answers.{answerNumber};
 
 mod calls;
 mod million;
+mod pressures;
 
 use crate::calls::call;
 use crate::million::DRAWN_END;
 use crate::million::END;
 use crate::million::MILLION;
 use crate::million::start;
+use crate::pressures::Counts;
+use crate::pressures::PRINTED;
+use crate::pressures::WINDS;
+use crate::pressures::compared;
+use crate::pressures::mixed;
+use crate::pressures::pressed;
+use crate::pressures::standing;
 use draws::keys::bits;
 use libc::STDOUT_FILENO;
 use lines::digest::START;
@@ -171,8 +181,40 @@ fn print_million() {
     print_line(b"equal", &line);
 }
 
+// The rows at every 1 000 N/m².
+fn print_pressed(place: u64, rows: &[u64; 18]) {
+    if place % PRINTED == 0 {
+        print_rows(b"pressed", rows);
+    }
+}
+
+fn print_pressures() {
+    let mut state = pressed(standing(), 0);
+    let mut rows = pressures::rows_of(state);
+    let mut digest = mixed(START, rows);
+    let mut counts = Counts {
+        more: 0,
+        same: 0,
+        less: 0,
+    };
+    print_pressed(0, &rows);
+    for place in 1u64..WINDS {
+        state = pressed(state, place);
+        let next = pressures::rows_of(state);
+        counts = compared(counts, rows, next);
+        digest = mixed(digest, next);
+        rows = next;
+        print_pressed(place, &rows);
+    }
+    let line = [digest];
+    print_line(b"digest", &line);
+    let line = [counts.more, counts.same, counts.less];
+    print_line(b"compared", &line);
+}
+
 fn main() {
     let counts = run_lists();
     print_counts(b"answer", counts);
     print_million();
+    print_pressures();
 }

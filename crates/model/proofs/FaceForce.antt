@@ -84,16 +84,19 @@ m²-proper : (a : Area) → Proper (m² a)
 unfolding m²
 m²-proper a = lit _ 999_999
 
-pub face-defined : (l : Legs) (k factor q : ℕ) (u : Area) (a : Areas) (items : ℕ) → 0 < u .0 → 0 < solid a .0 → Defined (faceForce l k factor q u a items)
-unfolding faceForce resistance solidity
-face-defined l k factor q u a items hu hs =
+pub resistance-defined : (l : Legs) (k : ℕ) (u : Area) (a : Areas) (items : ℕ) → 0 < u .0 → 0 < solid a .0 → Defined (resistance l k u a items)
+unfolding resistance solidity
+resistance-defined l k u a items hu hs =
     let c : Proper (solid a .0 // u .0) = //-proper _ _ hu in
-    ⊙-defined (·-proper _ _ (whole-proper q) (lit _ 999))
-    (⊞-defined (lit _ 999_999_999_999)
+    ⊞-defined (lit _ 999_999_999_999)
     (⊙-defined (incidence-proper l k a _ c hs)
     (⊞-defined
     (⊕-proper _ _ (·-proper _ _ (c-f-proper l _ c) (m²-proper (a .flat))) (·-proper _ _ (c-c-proper l _ c) (m²-proper (a .subcritical))))
-    (⊙-defined (m²-proper (a .supercritical)) (c-p-defined l _ c)))))
+    (⊙-defined (m²-proper (a .supercritical)) (c-p-defined l _ c))))
+
+pub face-defined : (l : Legs) (k factor q : ℕ) (u : Area) (a : Areas) (items : ℕ) → 0 < u .0 → 0 < solid a .0 → Defined (faceForce l k factor q u a items)
+unfolding faceForce
+face-defined l k factor q u a items hu hs = ⊙-defined (·-proper _ _ (whole-proper q) (lit _ 999)) (resistance-defined l k u a items hu hs)
 
 -- not negative: the root takes away at most 1.9 A_p
 pub nonneg-law : (A p U N c top : ℕ) → N ≤ c * c * (U * U) → A * (c * (U * U) * p) ≤ top → A * p * U * (A * p * U) * N ≤ top * top

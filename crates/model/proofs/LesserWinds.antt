@@ -7,13 +7,13 @@ use mathlib.Core.Logic.{_⊎_, ⊎-elim}
 use native.Mathlib.Omega.{arith}
 use native.Mathlib.Nat.{mul-pos, mul-div-le, mul-le-mul-right, le-div-iff-mul-le}
 use lib.Dec.{eqb}
-use borrow.Author.Tests.{ltb-true, eqb-true}
+use borrow.Author.Tests.{ltb-true, ltb-false, lt-ltb, eqb-true}
 use Rattle.units.specs.declared.Length.{Length}
 use Rattle.units.specs.declared.Area.{Area}
 use Rattle.exact.specs.Fraction.{whole}
 use Rattle.exact.specs.Rooted.{_≼√_, _√≼_, Defined}
 use Rattle.exact.specs.Number.{Every, none, also, this, Sound, AtMost, AtLeast}
-use Rattle.exact.proofs.Bools.{and-split}
+use Rattle.exact.proofs.Bools.{and-split, and-rest, and-join}
 use Rattle.exact.proofs.Order.{le-or-lt}
 use Rattle.exact.proofs.Lists.{every-join, every-mapped}
 use Rattle.model.specs.declared.Legs.{Legs}
@@ -54,6 +54,28 @@ less {limit} {d} {p} q g h = ⊎-elim (λ k. absurd (turned k)) (λ k. k) (le-or
     turned : q ≤ p → ⊥
     turned k = omega (arith, mul-le-mul-right (d * d) k, g .under)
 
+-- the limit that a supercritical diameter is above; without ice another one is not
+pub limit-above : (t : Length) (q : ℕ) (d : Length) → isSupercritical t q d ≡ true → flowLimit < 2 * q * (d .0 * d .0)
+limit-above t q d h = ltb-true _ _ (and-split (eqb (t .0) 0) _ h .1)
+
+pub limit-over : (t : Length) (q : ℕ) (d : Length) → eqb (t .0) 0 ≡ true → isSupercritical t q d ≡ false → 2 * q * (d .0 * d .0) ≤ flowLimit
+limit-over t q d z h = ltb-false _ _ (and-rest (eqb (t .0) 0) _ z h)
+
+-- what is supercritical stays so under more pressure
+pub stays : (t : Length) (p q : ℕ) (d : Length) → p ≤ q → isSupercritical t p d ≡ true → isSupercritical t q d ≡ true
+stays t p q d h e =
+    and-join (and-split (eqb (t .0) 0) _ e .0) (lt-ltb _ _ (higher p q (d .0 * d .0) flowLimit h (limit-above t p d e)))
+  where
+    higher : (x y s limit : ℕ) → x ≤ y → limit < 2 * x * s → limit < 2 * y * s
+    higher x y s limit l g = omega (arith, mul-le-mul-right s l)
+
+-- a round that turns supercritical between p and p + 1 has the lesser wind p
+pub turns-at : (t : Length) (p : ℕ) (d : Length) → isSupercritical t p d ≡ false → isSupercritical t (p + 1) d ≡ true → flowLimit / (2 * (d .0 * d .0)) ≡ p
+turns-at t p d e f =
+    let above : flowLimit < 2 * (p + 1) * (d .0 * d .0) = limit-above t (p + 1) d f in
+    let g : GreatestUnder flowLimit (d .0) _ = greatest-under flowLimit (d .0) (positive flowLimit (p + 1) (d .0) above) in
+    omega (arith, less (p + 1) g above, g .none-above p (limit-over t p d (and-split (eqb (t .0) 0) _ f .0) e))
+
 -- the lesser wind of a round is the greatest at which it is not supercritical, and less than the pressure
 pub record Lesser (q d p : ℕ) : Type 0 where
   pub greatest : GreatestUnder flowLimit d p
@@ -65,7 +87,7 @@ lesser-greatest t q d = go (isSupercritical t q d) refl
   where
     go : (b : Bool) → isSupercritical t q d ≡ b → Every (Lesser q (d .0)) (cond b (flowLimit / (2 * (d .0 * d .0)) ∷ []) [])
     go true e =
-        let above : flowLimit < 2 * q * (d .0 * d .0) = ltb-true _ _ (and-split (eqb (t .0) 0) _ e .1) in
+        let above : flowLimit < 2 * q * (d .0 * d .0) = limit-above t q d e in
         let g : GreatestUnder flowLimit (d .0) _ = greatest-under flowLimit (d .0) (positive flowLimit q (d .0) above) in
         also (record { greatest = g; less = less q g above }) none
     go false e = none
@@ -121,13 +143,13 @@ module _ (l : Legs) (k : ℕ) (t : Length) (factor : ℕ) (s : Section) (items :
   unfolding formula
   formula-defined p = face-defined l k factor p _ _ items (omega (arith, solid-in p)) (solid-in p .0)
 
-  formula-nonneg : (p : ℕ) → whole 0 ≼√ formula l k t factor s items p
-  unfolding formula
-  formula-nonneg p =
+  -- with the groups classed at p, under any pressure q
+  pub classed-nonneg : (p q : ℕ) → whole 0 ≼√ faceForce l k factor q (gross s) (areasOf t p (s .groups)) items
+  classed-nonneg p q =
       let a : Areas = areasOf t p (s .groups) in
       let u : Area = gross s in
-      subst (λ (x : Area). whole 0 ≼√ faceForce l k factor p x a items) (opened a u (solid-in p .1))
-      (face-nonneg l k factor p a (u .0 - solid a .0) items (solid-in p .0))
+      subst (λ (x : Area). whole 0 ≼√ faceForce l k factor q x a items) (opened a u (solid-in p .1))
+      (face-nonneg l k factor q a (u .0 - solid a .0) items (solid-in p .0))
 
   formula-bound : gross s .0 ≤ largestGross → factor ≤ 2000 → items ≤ largestItems → (p : ℕ) → p ≤ 5000
       → formula l k t factor s items p √≼ whole largestForce
@@ -142,11 +164,11 @@ module _ (l : Legs) (k : ℕ) (t : Length) (factor : ℕ) (s : Section) (items :
   pub force-sound : (q : ℕ) → Sound (exactForce l k t factor s q items)
   unfolding exactForce
   force-sound q =
-      record { each = every-mapped (formula l k t factor s items) (λ p h. formula-defined p) (winds-under t q (s .groups)) }
+      record { each = every-mapped (formula l k t factor s items) (λ p h. formula-defined p) (winds-under t q _) }
 
   pub force-nonneg : (q : ℕ) → AtMost (whole 0) (exactForce l k t factor s q items)
-  unfolding exactForce
-  force-nonneg q = record { some = this (formula-nonneg q) }
+  unfolding exactForce formula
+  force-nonneg q = record { some = this (classed-nonneg q q) }
 
   pub force-bound : gross s .0 ≤ largestGross → factor ≤ 2000 → items ≤ largestItems → (q : ℕ) → q ≤ 5000
       → AtLeast (exactForce l k t factor s q items) (whole largestForce)
@@ -155,5 +177,5 @@ module _ (l : Legs) (k : ℕ) (t : Length) (factor : ℕ) (s : Section) (items :
       record {
         each =
             every-mapped {P = λ p. p ≤ q} (formula l k t factor s items) (λ p h. formula-bound g hf hi p (omega arith))
-            (winds-under t q (s .groups));
+            (winds-under t q _);
       }

@@ -6,10 +6,12 @@ pub mod FaceForce
 pub mod Bounds
 pub mod LesserWinds
 pub mod WeakWinds
+pub mod MorePressure
 pub mod Sections
 pub mod Forces
 pub mod Moments
 pub mod Reorder
+pub mod Growing
 pub mod Rows
 pub mod RowsFit
 pub mod Samples

@@ -3,12 +3,16 @@ use Prim.Native.Nat.{ℕ, zero, suc, _+_, _*_, _≤_, _<_}
 use mathlib.Core.Path.{_≡_, refl, ap, sym, _∙_}
 use mathlib.Core.Bool.{Bool, true, false, cond, _&&_, _||_, and-true, and-false, and-assoc, and-comm, or-true, or-false, or-assoc, or-comm}
 use mathlib.Core.List.{List, [], _∷_, _++_, map, List·Permᴰ, List·Permᴰ·nil, List·Permᴰ·cons, List·Permᴰ·swap, List·Permᴰ·trans, Forall₂, Forall₂·nil, Forall₂·cons}
+use mathlib.Core.Logic.{⊎-elim}
 use native.Mathlib.Numerals.{add-one}
 use native.Mathlib.Omega.{arith}
 use lib.ListN.{length, getD, set, take, drop, length-append, length-map, take-append-drop}
 use lib.Seq.{take-suc, getD-take, length-take-le}
 use Rattle.model.specs.Lists.{anyOf, allOf, kept, sumBy, sumTo, listTo}
+use Rattle.exact.specs.Number.{Every, none, also, Some, this}
 use Rattle.exact.proofs.Bools.{and-split, and-join, or-split, or-join}
+use Rattle.exact.proofs.Order.{le-or-lt}
+use Rattle.exact.proofs.Lists.{every-join, some-left, some-right}
 
 module _ {A : Type 0} (f : A → ℕ) where
   pub sumBy-none : sumBy f [] ≡ 0
@@ -90,6 +94,17 @@ pub forall-listTo : {A B : Type 0} {R : A → B → Type 0} (f : ℕ → A) (g :
 unfolding listTo
 forall-listTo f g zero h = Forall₂·nil
 forall-listTo f g (suc n) h = forall-append (forall-listTo f g n (λ i q. h i (omega arith))) (h n (omega arith))
+
+pub every-listTo : {A : Type 0} {Q : A → Type 0} (f : ℕ → A) (n : ℕ) → ((p : ℕ) → p < n → Q (f p)) → Every Q (listTo f n)
+unfolding listTo
+every-listTo f zero h = none
+every-listTo f (suc n) h = every-join (every-listTo f n (λ p g. h p (omega arith))) (also (h n (omega arith)) none)
+
+pub some-listTo : {A : Type 0} (f : ℕ → A) (n p : ℕ) → p < n → Some (λ r. r ≡ f p) (listTo f n)
+unfolding listTo
+some-listTo f zero p h = absurd (omega arith)
+some-listTo f (suc n) p h =
+    ⊎-elim (λ g. let e : n ≡ p = omega arith in some-right (listTo f n) (this (ap f e))) (λ g. some-left (f n ∷ []) (some-listTo f n p g)) (le-or-lt n p)
 
 -- what holds of all, and of the default, holds of each that is read
 pub getD-all : {A : Type 0} (p : A → Bool) (l : List A) (i : ℕ) (d : A) → allOf p l ≡ true → p d ≡ true → p (getD l i d) ≡ true

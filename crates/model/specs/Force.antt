@@ -119,7 +119,8 @@ unfoldable pub formula : Legs → ℕ → Length → ℕ → Section → ℕ →
 formula l k t factor section items p = faceForce l k factor p (gross section) (areasOf t p (section .groups)) items
 
 -- the exact force on a section under pressure q. NA.B.2.3.2.1(5): no lower wind may load a section more whose groups
--- are taken as supercritical. So it is the greatest of the formula's values at q and in the lesser winds of its groups.
+-- are taken as supercritical. So it is the greatest of the formula's values at q and in the lesser winds of its groups;
+-- no whole pressure up to q gives more (theorem `exact-greatest` in proofs/MorePressure).
 unfoldable pub exactForce : Legs → ℕ → Length → ℕ → Section → ℕ → ℕ → Exact
 exactForce l k t factor section q items =
     map (formula l k t factor section items) (q ∷ lesserWinds t q (section .groups))

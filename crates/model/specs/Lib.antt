@@ -8,6 +8,7 @@ pub mod Reading
 pub mod File
 pub mod Bytes
 pub mod Report
+pub mod MorePressure
 pub mod Machine
 pub mod Calls
 pub mod Outcomes

@@ -1,20 +1,22 @@
 -- Examples of the definitions that stand in the statements of the customer's demands and in no function's promise: arguments of their types, what is lent
--- before a call, accepted, the tower newly erected, the sum of the arms. No code fails where one of these is wrong, so an example does.
-use Prim.Native.Nat.{ℕ}
+-- before a call, accepted, the tower newly erected, the sum of the arms, two reports under different pressures. No code fails where one of these is wrong, so an example does.
+use Prim.Native.Nat.{ℕ, _+_, _≤_, _<_}
 use mathlib.Core.Path.{_≡_}
 use mathlib.Core.Bool.{Bool, true, false, not}
 use mathlib.Core.List.{List, [], _∷_, _++_, map}
 use mathlib.Core.Option.{some}
-use lib.ListN.{replicate}
+use lib.ListN.{getD, replicate}
 use Rattle.model.specs.declared.Legs.the-variants.{Four}
 use Rattle.model.specs.declared.Answer.the-variants as answer
 use Rattle.model.specs.declared.CheckAnswer.the-variants as check-answer
 use Rattle.model.specs.declared.WriteAnswer.the-variants as write-answer
 use Rattle.model.specs.declared.Refusal.the-variants as refusal
 use Rattle.model.specs.Lists.{allOf}
-use Rattle.model.specs.Tower.{Section, Tower}
-use Rattle.model.specs.Machine.{no-tower, standing}
+use Rattle.model.specs.declared.Item.{Item}
+use Rattle.model.specs.Tower.{Section, Tower, Wind}
+use Rattle.model.specs.Machine.{no-tower, standing, withItems}
 use Rattle.model.specs.Report.{armsTo}
+use Rattle.model.specs.MorePressure.{NoLower, AboveLess, NoLess}
 use Rattle.model.specs.Calls.{Call, erect, hang, takeDown, wind, report, check, write, typed, lentBefore, run, newlyErected, firstRefusal, lentLast}
 use Rattle.model.specs.Outcomes.{Reply, answered, checked, written, numberAlone, Outcome, isAccepted, lastLent}
 use Rattle.model.specs.Examples.{plain, item, itemOf, windWith, plainTower, erectFour, steady, secondWind}
@@ -77,6 +79,30 @@ sectionHigh height = record { width = record { 0 = 2000 }; height = record { 0 =
 unfoldable pub twoHigh : ℕ → ℕ → Tower
 twoHigh upper lower = record { legs = Four; sections = sectionHigh upper ∷ sectionHigh lower ∷ []; items = [] }
 
+abbrev pub twoWith : List Item → Tower
+twoWith items = withItems (twoHigh 4000 6000) items
+
+abbrev pub windOver : ℕ → Wind
+windOver lower = record { direction = 3; ice = 0; factor = 1000; pressures = 500 ∷ lower ∷ [] }
+
+-- the numbers of two reports of two sections, 4 000 and 6 000 mm high: force, shear and moment of the upper one and of the
+-- lower one, each below the other report's and so much more, or at most the other report's
+pub record TwoAbove (first second : List ℕ) : Type 0 where
+  pub upper-force : getD first 3 0 < getD second 3 0 + 2
+  pub upper-shear : getD first 4 0 < getD second 4 0 + 2
+  pub upper-moment : getD first 5 0 < getD second 5 0 + 4000
+  pub lower-force : getD first 9 0 < getD second 9 0 + 2
+  pub lower-shear : getD first 10 0 < getD second 10 0 + 4
+  pub lower-moment : getD first 11 0 < getD second 11 0 + 22_000
+
+pub record TwoNoLess (first second : List ℕ) : Type 0 where
+  pub upper-force : getD first 3 0 ≤ getD second 3 0
+  pub upper-shear : getD first 4 0 ≤ getD second 4 0
+  pub upper-moment : getD first 5 0 ≤ getD second 5 0
+  pub lower-force : getD first 9 0 ≤ getD second 9 0
+  pub lower-shear : getD first 10 0 ≤ getD second 10 0
+  pub lower-moment : getD first 11 0 ≤ getD second 11 0
+
 pub record StatementExamples : Type 0 where
   -- arguments of their types: every value of each type, and no other
   pub typed-widest : allOf typed widest ≡ true
@@ -102,3 +128,8 @@ pub record StatementExamples : Type 0 where
   -- the sum of the arms about either foot of two sections, 4 000 and 6 000 mm high: 2 000, and 8 000 + 3 000
   pub arms-upper : armsTo (twoHigh 4000 6000) 1 ≡ record { 0 = 2000 }
   pub arms-lower : armsTo (twoHigh 4000 6000) 2 ≡ record { 0 = 11_000 }
+  -- no lower pressure: the same on one section and more on the other, with the items in another order
+  pub no-lower : NoLower (twoWith (itemOf 7 0 300 ∷ itemOf 8 1 300 ∷ [])) (windOver 400) (twoWith (itemOf 8 1 300 ∷ itemOf 7 0 300 ∷ [])) (windOver 401)
+  -- what is said of the numbers of two reports
+  pub two-above : (first second : List ℕ) → AboveLess 2 (twoHigh 4000 6000) first second → TwoAbove first second
+  pub two-no-less : (first second : List ℕ) → NoLess (twoHigh 4000 6000) first second → TwoNoLess first second

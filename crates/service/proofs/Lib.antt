@@ -12,3 +12,4 @@ pub mod Demand1
 pub mod Demand2
 pub mod Represented
 pub mod Exists
+pub mod MorePressure

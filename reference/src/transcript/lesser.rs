@@ -1,9 +1,9 @@
 //! Lesser winds that govern a section, and ones that do not.
 
-use super::{erect, report, Sample};
+use super::{blowing, erect, report, Sample};
 use crate::requests::Request;
-use crate::sample::{item, round, sample, sample_wind, section, tower};
-use crate::tower::{Item, Legs, Tower, Wind};
+use crate::sample::{item, round, sample, section, tower};
+use crate::tower::{Item, Legs};
 
 /// A starred sample at three pressures, then a tower of two rounds.
 pub fn samples() -> Vec<Sample> {
@@ -53,12 +53,4 @@ fn two_rounds() -> Vec<Sample> {
         [Request::Hang(hung), report()],
     ));
     samples
-}
-
-/// The samples' wind with these pressures.
-fn blowing(tower: &Tower, pressures: &[u16]) -> Request {
-    Request::Wind(Wind {
-        pressures: pressures.to_vec(),
-        ..sample_wind(tower, 0, 0)
-    })
 }

@@ -1,6 +1,7 @@
 //! The list of hangings and take-downs on one tower, and what the program prints.
 
 use crate::lists::lists;
+use crate::lists_pressures;
 use reference::lists::{million, text, Million, HUNG, LISTS};
 use reference::refusal::ANSWERS;
 use reference::tower::Member;
@@ -61,8 +62,8 @@ fn all_flow_classes_are_reported() {
 }
 
 #[test]
-fn the_program_prints_a_line_a_list_the_answers_and_three_reports() {
-    let text = text(lists(), run());
+fn the_program_prints_a_line_a_list_the_answers_and_the_reports() {
+    let text = text(lists(), run(), lists_pressures::run());
     let named = |name: &str| -> Vec<&str> {
         let lines = text.lines();
         lines
@@ -83,9 +84,15 @@ fn the_program_prints_a_line_a_list_the_answers_and_three_reports() {
         assert_eq!(named(name).len(), 6, "{name}");
     }
     let digests = named("digest");
-    assert_eq!(digests.len(), 3);
+    assert_eq!(digests.len(), 4);
     assert_eq!(digests[0], digests[2]);
     assert_ne!(digests[0], digests[1]);
     assert_eq!(named("million").len(), 4);
-    assert_eq!(text.lines().last(), Some("equal 36"));
+    assert_eq!(named("equal"), ["equal 36"]);
+    assert_eq!(named("pressed").len(), 6 * 3);
+    let last = text.lines().last().expect("a line");
+    assert!(
+        last.starts_with("compared ") && last.ends_with(" 0"),
+        "{last}"
+    );
 }

@@ -25,6 +25,7 @@ mod lesser_winds;
 mod lists;
 mod lists_draws;
 mod lists_million;
+mod lists_pressures;
 mod plain;
 mod refused;
 mod request_lines;

@@ -147,6 +147,31 @@ fn lesser_winds_govern_where_they_have_the_greatest_force() {
     reports(title, &three([3_774, 4_189, 1_020]));
 }
 
+/// Request M-112: the triangle's sample twice, c_c = 1.506151975 and c_p = 1.083 on
+/// 1.83 m2, under pressures of which none falls.
+#[test]
+fn forces_do_not_fall_where_pressures_rise() {
+    let two = |supercritical: [bool; 2], forces: [u64; 2]| {
+        let areas = supercritical.map(|is| if is { "0 0 1830000" } else { "0 1830000 0" });
+        let [upper, lower] = forces;
+        let (shear, moment) = (upper + lower, 7_500 * upper + 2_500 * lower);
+        format!(
+            "ok 2\n{} {upper} {upper} {}\n{} {lower} {shear} {moment}",
+            areas[0],
+            2_500 * upper,
+            areas[1]
+        )
+    };
+    let title = "Three legs, two sections with h = 5 000 and round 300 by 6 100, 249 on both";
+    reports(title, &two([false, false], [687, 687]));
+    reports("250 on the upper one", &two([false, false], [690, 687]));
+    reports("251 on the lower one", &two([false, true], [690, 690]));
+    reports("347 on the upper one", &two([true, true], [690, 690]));
+    reports("348 on the upper one", &two([true, true], [690, 690]));
+    reports("349 on the upper one", &two([true, true], [692, 690]));
+    reports("5 000 on both", &two([true, true], [9_910, 9_910]));
+}
+
 #[test]
 fn the_item_adds_576() {
     let hung = |without: String, with: String| {

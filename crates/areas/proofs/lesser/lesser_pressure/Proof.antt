@@ -3,7 +3,8 @@ use mathlib.Core.Bool.{true, false}
 use native.Mathlib.Omega.{arith}
 use Rattle.model.specs.declared.Member.the-variants.{Flat, Round}
 use Rattle.model.specs.Areas.{isSupercritical, lesserOf}
-use Rattle.areas.proofs.LesserPressures.{none-is, one-is, limit-above}
+use Rattle.model.proofs.LesserWinds.{limit-above}
+use Rattle.areas.proofs.LesserPressures.{none-is, one-is}
 use borrow.Author.Needs.{needs}
 use Rattle.areas.proofs.lesser.lesser_pressure.Statement.{statement}
 use Rattle.areas.proofs.lesser.lesser_pressure.Tie as tie
