@@ -38,15 +38,15 @@ statement-examples =
             direction = refl;
             ice = refl;
             factor = refl;
-            pressure = higher;
+            pressure = λ i h. omega (arith, higher i h);
           };
       two-above = λ first second h.
           record {
             upper-force = h .force 0 (omega arith);
-            upper-shear = h .shear 0 (omega arith);
+            upper-shear = omega (arith, h .shear 0 (omega arith));
             upper-moment = h .moment 0 (omega arith);
             lower-force = h .force 1 (omega arith);
-            lower-shear = h .shear 1 (omega arith);
+            lower-shear = omega (arith, h .shear 1 (omega arith));
             lower-moment = h .moment 1 (omega arith);
           };
       two-no-less = λ first second h.
