@@ -100,7 +100,9 @@ pub equal-example : Equal one (only (fraction (whole 1)))
 unfolding whole _//_ _⊖_ _·_ square
 equal-example =
     record {
-      not-above = not-above-by one-sound alone (whole 1) (whole-proper 1) one-least (at-most-only (record { under = record { cross = lit≤ tt }; squared = record { cross = lit≤ tt } }));
+      not-above =
+          not-above-by one-sound alone (whole 1) (whole-proper 1) one-least
+          (at-most-only (record { under = record { cross = lit≤ tt }; squared = record { cross = lit≤ tt } }));
       not-below = not-above-by alone one-sound (whole 1) (whole-proper 1) (at-least-only (over (record { cross = lit≤ tt }))) one-most;
     }
   where

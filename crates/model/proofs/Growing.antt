@@ -14,10 +14,10 @@ use Rattle.model.specs.Areas.{thickness}
 use Rattle.model.specs.Report.{pressureAt, heightAt, exactAt, forceAt, arm, shear, moment, shearAt, momentAt, armsTo}
 use Rattle.model.specs.MorePressure.{greatestAt, NoLower}
 use Rattle.model.specs.Valid.{ValidWind}
-use Rattle.model.proofs.Lists.{sumTo-same, sumTo-ones}
+use Rattle.model.proofs.Lists.{sumTo-times-one, sumTo-ones}
 use Rattle.model.proofs.MorePressure.{exact-greatest, exact-grows}
-use Rattle.model.proofs.Forces.{stands-at, force-least, height-at}
-use Rattle.model.proofs.Moments.{arm-positive}
+use Rattle.model.proofs.Forces.{stands-at, force-least}
+use Rattle.model.proofs.Moments.{arm-at}
 use Rattle.model.proofs.Reorder.{item-sum-order}
 
 -- sums of forces times their arms
@@ -41,9 +41,6 @@ module _ (f g arms : ℕ → ℕ) where
   sum-above m (suc n) p h a =
       omega (arith, sum-under m n (λ i b. h i (omega arith)), mul-lt-mul-of-pos-right (h n (omega arith)) (a n (omega arith)))
 
-times-one : (f : ℕ → ℕ) (n : ℕ) → sumTo (λ i. f i * 1) n ≡ sumTo f n
-times-one f n = sumTo-same _ _ n (λ i h. omega arith)
-
 -- of every section of an accepted tower under a wind that it takes
 pub greatest-at : (t : Tower) (w : Wind) → ValidWind t w → (i : ℕ) → i < length (t .sections) → Equal (exactAt t w i) (greatestAt t w i)
 unfolding exactAt greatestAt
@@ -61,9 +58,6 @@ module _ (t : Tower) (w : Wind) (t′ : Tower) (w′ : Wind) (v : ValidWind t w)
   unfolding heightAt
   heights = fun-ext (λ i. rw (g .sections))
 
-  arm-at : (n : ℕ) → n ≤ length (t .sections) → (j : ℕ) → j < n → 0 < arm (heightAt t) j n .0
-  arm-at n b j h = arm-positive (heightAt t) j n (let k : _ = height-at t w v j (omega arith) in omega arith)
-
   -- any forces within so many newtons of the exact ones, and their shears and moments
   module _ (newtons : ℕ) (force force′ : ℕ → Force)
       (near : (i : ℕ) → i < length (t .sections) → Within newtons (exactAt t w i) (force i .0))
@@ -78,13 +72,13 @@ module _ (t : Tower) (w : Wind) (t′ : Tower) (w′ : Wind) (v : ValidWind t w)
           let f : ℕ → ℕ = λ j. force j .0 in
           let f′ : ℕ → ℕ = λ j. force′ j .0 in
           let k : _ = sum-above f f′ (λ j. 1) newtons n p (λ i h. band-force i (omega arith)) (λ i h. omega arith) in
-          omega (arith, k, times-one f n, times-one f′ n, ap (λ (m : ℕ). newtons * m) (sumTo-ones n))
+          omega (arith, k, sumTo-times-one f n, sumTo-times-one f′ n, ap (λ (m : ℕ). newtons * m) (sumTo-ones n))
 
       pub band-moment : moment force (heightAt t) n .0 < moment force′ (heightAt t′) n .0 + newtons * armsTo t n .0
       unfolding moment armsTo
       band-moment =
           rw (← heights)
-          (sum-above (λ j. force j .0) (λ j. force′ j .0) (λ j. arm (heightAt t) j n .0) newtons n p (λ i h. band-force i (omega arith)) (arm-at n b))
+          (sum-above (λ j. force j .0) (λ j. force′ j .0) (λ j. arm (heightAt t) j n .0) newtons n p (λ i h. band-force i (omega arith)) (arm-at t w v n b))
 
   -- the reported ones, each the least whole number not below its exact force: they do not fall at all
   pub force-grows : (i : ℕ) → i < length (t .sections) → forceAt t w i .0 ≤ forceAt t′ w′ i .0
@@ -96,7 +90,7 @@ module _ (t : Tower) (w : Wind) (t′ : Tower) (w′ : Wind) (v : ValidWind t w)
     shear-grows =
         let f : ℕ → ℕ = λ j. forceAt t w j .0 in
         let f′ : ℕ → ℕ = λ j. forceAt t′ w′ j .0 in
-        omega (arith, times-one f n, times-one f′ n, sum-grows f f′ (λ j. 1) n (λ i h. force-grows i (omega arith)))
+        omega (arith, sumTo-times-one f n, sumTo-times-one f′ n, sum-grows f f′ (λ j. 1) n (λ i h. force-grows i (omega arith)))
 
     pub moment-grows : momentAt t w n .0 ≤ momentAt t′ w′ n .0
     unfolding moment

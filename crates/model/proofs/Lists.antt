@@ -73,6 +73,9 @@ unfolding sumTo
 sumTo-same f g zero h = refl
 sumTo-same f g (suc n) h = omega (arith, sumTo-same f g n (λ i q. h i (omega arith)), h n (omega arith))
 
+pub sumTo-times-one : (f : ℕ → ℕ) (n : ℕ) → sumTo (λ i. f i * 1) n ≡ sumTo f n
+sumTo-times-one f n = sumTo-same _ _ n (λ i h. omega arith)
+
 pub sumTo-ones : (n : ℕ) → sumTo (λ _. 1) n ≡ n
 unfolding sumTo
 sumTo-ones zero = refl

@@ -16,7 +16,7 @@ use Rattle.model.specs.Tower.{Tower, Wind}
 use Rattle.model.specs.Force.{largestForce}
 use Rattle.model.specs.Report.{heightAt, exactAt, forceAt, arm, shear, moment, shearAt, momentAt, shearTerms, momentTerms, armsTo}
 use Rattle.model.specs.Valid.{ValidWind}
-use Rattle.model.proofs.Lists.{sumTo-none, sumTo-more, sumTo-same, sumTo-bound, sumTo-ones, length-listTo, forall-listTo}
+use Rattle.model.proofs.Lists.{sumTo-none, sumTo-more, sumTo-times-one, sumTo-bound, sumTo-ones, length-listTo, forall-listTo}
 use Rattle.model.proofs.Forces.{height-at, sound-at, nonneg-at, force-least, force-within, force-bound}
 
 -- arms
@@ -122,6 +122,9 @@ unfolding momentTerms armsTo
 arms-are t w n = arms-listTo (λ j. 0) (λ j. record { exact = exactAt t w j; arm = arm (heightAt t) j n .0 }) n
 
 module _ (t : Tower) (w : Wind) (v : ValidWind t w) (n : ℕ) (within : n ≤ length (t .sections)) where
+  pub arm-at : (j : ℕ) → j < n → 0 < arm (heightAt t) j n .0
+  arm-at j h = arm-positive (heightAt t) j n (let k : _ = height-at t w v j (omega arith) in omega arith)
+
   reported-at : (margin : ℕ) → 0 < margin → (a : ℕ → ℕ) → ((j : ℕ) → j < n → 0 < a j)
       → (j : ℕ) → j < n → Reported margin (forceAt t w j .0) (record { exact = exactAt t w j; arm = a j })
   reported-at margin p a ha j q =
@@ -132,8 +135,7 @@ module _ (t : Tower) (w : Wind) (v : ValidWind t w) (n : ℕ) (within : n ≤ le
   unfolding shearTerms shear
   shear-excess margin p q =
       let f : ℕ → ℕ = λ j. forceAt t w j .0 in
-      let e : sumTo (λ j. f j * 1) n ≡ sumTo f n = sumTo-same _ _ n (λ j r. omega arith) in
-      rw (← e)
+      rw (← sumTo-times-one f n)
       (subst (λ (k : ℕ). ExcessBelow (listTo (λ j. record { exact = exactAt t w j; arm = 1 }) n) (sumTo (λ j. f j * 1) n) (margin * k))
       (arms-listTo f (λ j. record { exact = exactAt t w j; arm = 1 }) n ∙ sumTo-ones n)
       (sum-excess f (λ j. record { exact = exactAt t w j; arm = 1 }) margin n q (reported-at margin p (λ _. 1) (λ j r. omega arith))))
@@ -144,8 +146,7 @@ module _ (t : Tower) (w : Wind) (v : ValidWind t w) (n : ℕ) (within : n ≤ le
   moment-excess margin p q =
       rw (← arms-are t w n)
       (sum-excess (λ j. forceAt t w j .0) (λ j. record { exact = exactAt t w j; arm = arm (heightAt t) j n .0 }) margin n q
-      (reported-at margin p (λ j. arm (heightAt t) j n .0)
-      (λ j r. arm-positive (heightAt t) j n (let k : _ = height-at t w v j (omega arith) in omega arith))))
+      (reported-at margin p (λ j. arm (heightAt t) j n .0) arm-at))
 
   -- the statements are about something: each term has fractions on either side
   pub lows : (a : ℕ → ℕ) → Forall₂ Low (listTo (λ j. whole 0) n) (listTo (λ j. record { exact = exactAt t w j; arm = a j }) n)

@@ -1,5 +1,6 @@
 -- Examples of the definitions that stand in the statements of the customer's demands and in no function's promise: arguments of their types, what is lent
--- before a call, accepted, the tower newly erected, the sum of the arms, two reports under different pressures. No code fails where one of these is wrong, so an example does.
+-- before a call, accepted, the tower newly erected, the sum of the arms, two reports under different pressures. No code fails where one of these is
+-- wrong, so an example does.
 use Prim.Native.Nat.{ℕ, _+_, _≤_, _<_}
 use mathlib.Core.Path.{_≡_}
 use mathlib.Core.Bool.{Bool, true, false, not}

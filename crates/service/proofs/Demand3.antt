@@ -14,7 +14,7 @@ use Rattle.exact.specs.Sum.{ExcessBelow}
 use Rattle.model.specs.declared.Item.{Item}
 use Rattle.model.specs.Lists.{allOf}
 use Rattle.model.specs.Tower.{Tower, Wind}
-use Rattle.model.specs.Report.{exactAt, rowAt, rowsOf, shearTerms, momentTerms, armsTo}
+use Rattle.model.specs.Report.{exactAt, forceAt, shearAt, momentAt, rowAt, rowsOf, shearTerms, momentTerms, armsTo}
 use Rattle.model.specs.Machine.{State, no-tower, standing, reportOut, reportRefusal}
 use Rattle.model.specs.Calls.{Call, report, refusalOf, step, lentBefore, lentAfter, run, newlyErected}
 use Rattle.model.specs.Valid.{ValidWind, ValidState, none-standing, windy}
@@ -80,6 +80,15 @@ module _ (t : Tower) (w : Wind) (before after : List ℕ) (e : after ≡ rowsOf 
       ∙ List·getD-append (rowsOf t w) (drop (6 * length (t .sections)) before) 0 (6 * i + k) (omega (arith, length-rows t w (length (t .sections))))
       ∙ row-at t w (length (t .sections)) i k h g
 
+  pub force-in : (i : ℕ) → i < length (t .sections) → getD after (6 * i + 3) 0 ≡ forceAt t w i .0
+  force-in i h = number-at i 3 h (omega arith) ∙ columns t w i .force
+
+  pub shear-in : (i : ℕ) → i < length (t .sections) → getD after (6 * i + 4) 0 ≡ shearAt t w (i + 1) .0
+  shear-in i h = number-at i 4 h (omega arith) ∙ columns t w i .shear-at-foot
+
+  pub moment-in : (i : ℕ) → i < length (t .sections) → getD after (6 * i + 5) 0 ≡ momentAt t w (i + 1) .0
+  moment-in i h = number-at i 5 h (omega arith) ∙ columns t w i .moment-at-foot
+
   pub rows-in : take (6 * length (t .sections)) after ≡ rowsOf t w
   rows-in =
       ap (take (6 * length (t .sections))) e
@@ -89,14 +98,14 @@ module _ (t : Tower) (w : Wind) (before after : List ℕ) (e : after ≡ rowsOf 
   excess-of newtons p v =
       record {
         force = λ i h.
-            subst (λ (n : ℕ). Within newtons (exactAt t w i) n) (sym (number-at i 3 h (omega arith) ∙ columns t w i .force))
+            subst (λ (n : ℕ). Within newtons (exactAt t w i) n) (sym (force-in i h))
             (force-within t w v i h newtons p);
         shear = λ i h.
-            subst (λ (n : ℕ). ExcessBelow (shearTerms t w (i + 1)) n (newtons * (i + 1))) (sym (number-at i 4 h (omega arith) ∙ columns t w i .shear-at-foot))
+            subst (λ (n : ℕ). ExcessBelow (shearTerms t w (i + 1)) n (newtons * (i + 1))) (sym (shear-in i h))
             (shear-excess t w v (i + 1) (omega arith) newtons p (omega arith));
         moment = λ i h.
             subst (λ (n : ℕ). ExcessBelow (momentTerms t w (i + 1)) n (newtons * armsTo t (i + 1) .0))
-            (sym (number-at i 5 h (omega arith) ∙ columns t w i .moment-at-foot))
+            (sym (moment-in i h))
             (moment-excess t w v (i + 1) (omega arith) newtons p (omega arith));
       }
 

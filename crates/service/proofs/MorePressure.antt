@@ -4,22 +4,21 @@ use mathlib.Core.Path.{_≡_, refl, ap, sym, subst, subst₂, _∙_}
 use mathlib.Core.List.{List, [], _∷_, _++_}
 use mathlib.Core.Option.{some}
 use native.Mathlib.Omega.{arith}
-use lib.ListN.{length, drop, getD}
+use lib.ListN.{length, getD}
 use borrow.Author.Tests.{le-ltb}
 use Rattle.exact.specs.Number.{Equal, Within}
 use Rattle.model.specs.Tower.{Tower, Wind}
-use Rattle.model.specs.Report.{exactAt, forceAt, shearAt, momentAt, rowsOf}
+use Rattle.model.specs.Report.{exactAt, forceAt, shearAt, momentAt}
 use Rattle.model.specs.MorePressure.{greatestAt, NoLower, AboveLess, NoLess}
 use Rattle.model.specs.Machine.{State, no-tower, standing}
 use Rattle.model.specs.Calls.{Call, report, refusalOf, step, run}
 use Rattle.model.specs.Outcomes.{replyNumber, Outcome}
 use Rattle.model.specs.Valid.{ValidWind}
 use Rattle.model.proofs.Forces.{force-within}
-use Rattle.model.proofs.Rows.{columns}
 use Rattle.model.proofs.Growing.{greatest-at, band-force, band-shear, band-moment, force-grows, shear-grows, moment-grows}
 use Rattle.service.specs.declared.State as stored
 use Rattle.service.proofs.Links.{IsFresh, Chain}
-use Rattle.service.proofs.Demand3.{AcceptedReport, Each, entry-then, number-at, demand-3}
+use Rattle.service.proofs.Demand3.{AcceptedReport, Each, entry-then, force-in, shear-in, moment-in, demand-3}
 
 -- somewhere in a list of calls with these outcomes, the machine being given the same list from this state on, a report is
 -- accepted: of which tower under which wind, and the slice that it leaves
@@ -52,32 +51,28 @@ every-report ds es before a ch q room = found-in no-tower ds es before (demand-3
 -- what is known of such a report
 record Known (t : Tower) (w : Wind) (rows : List ℕ) : Type 0 where
   valid : ValidWind t w
-  before : List ℕ
-  are : rows ≡ rowsOf t w ++ drop (6 * length (t .sections)) before
+  force : (i : ℕ) → i < length (t .sections) → getD rows (6 * i + 3) 0 ≡ forceAt t w i .0
+  shear : (i : ℕ) → i < length (t .sections) → getD rows (6 * i + 4) 0 ≡ shearAt t w (i + 1) .0
+  moment : (i : ℕ) → i < length (t .sections) → getD rows (6 * i + 5) 0 ≡ momentAt t w (i + 1) .0
 
 known-of : {t : Tower} {w : Wind} {before after : List ℕ} → AcceptedReport (standing t (some w)) before after → Known t w after
 known-of {t} {w} {before} {after} r =
     let et : r .tower ≡ t = cc in
     let ew : r .wind ≡ w = cc in
-    subst₂ (λ (x : Tower) (y : Wind). Known x y after) et ew (record { valid = r .valid; before = before; are = r .rows })
+    subst₂ (λ (x : Tower) (y : Wind). Known x y after) et ew
+    (record {
+      valid = r .valid;
+      force = force-in (r .tower) (r .wind) before after (r .rows);
+      shear = shear-in (r .tower) (r .wind) before after (r .rows);
+      moment = moment-in (r .tower) (r .wind) before after (r .rows);
+    })
 
 known : {m : State} {cs : List Call} {os : List Outcome} {t : Tower} {w : Wind} {rows : List ℕ} → Each m cs os → AcceptedIn m cs os t w rows
     → Known t w rows
 known (entry-then e es) (this-call {before = before} h) = known-of (e .accepted-report before refl h)
 known (entry-then e es) (later-call r) = known es r
 
--- a reported force, shear and moment
-module _ {t : Tower} {w : Wind} {rows : List ℕ} (k : Known t w rows) (i : ℕ) (h : i < length (t .sections)) where
-  force-in : getD rows (6 * i + 3) 0 ≡ forceAt t w i .0
-  force-in = number-at t w (k .before) rows (k .are) i 3 h (omega arith) ∙ columns t w i .force
-
-  shear-in : getD rows (6 * i + 4) 0 ≡ shearAt t w (i + 1) .0
-  shear-in = number-at t w (k .before) rows (k .are) i 4 h (omega arith) ∙ columns t w i .shear-at-foot
-
-  moment-in : getD rows (6 * i + 5) 0 ≡ momentAt t w (i + 1) .0
-  moment-in = number-at t w (k .before) rows (k .are) i 5 h (omega arith) ∙ columns t w i .moment-at-foot
-
--- two of them
+-- the numbers of two of them
 module _ {t t′ : Tower} {w w′ : Wind} {rows rows′ : List ℕ} (k : Known t w rows) (k′ : Known t′ w′ rows′) (g : NoLower t w t′ w′) where
   there : {i : ℕ} → i < length (t .sections) → i < length (t′ .sections)
   there h = rw (← g .sections) h
@@ -85,9 +80,9 @@ module _ {t t′ : Tower} {w w′ : Wind} {rows rows′ : List ℕ} (k : Known t
   no-less : NoLess t rows rows′
   no-less =
       record {
-        force = λ i h. rw (force-in k i h, force-in k′ i (there h)) (force-grows t w t′ w′ (k .valid) (k′ .valid) g i h);
-        shear = λ i h. rw (shear-in k i h, shear-in k′ i (there h)) (shear-grows t w t′ w′ (k .valid) (k′ .valid) g (i + 1) (omega arith));
-        moment = λ i h. rw (moment-in k i h, moment-in k′ i (there h)) (moment-grows t w t′ w′ (k .valid) (k′ .valid) g (i + 1) (omega arith));
+        force = λ i h. rw (k .force i h, k′ .force i (there h)) (force-grows t w t′ w′ (k .valid) (k′ .valid) g i h);
+        shear = λ i h. rw (k .shear i h, k′ .shear i (there h)) (shear-grows t w t′ w′ (k .valid) (k′ .valid) g (i + 1) (omega arith));
+        moment = λ i h. rw (k .moment i h, k′ .moment i (there h)) (moment-grows t w t′ w′ (k .valid) (k′ .valid) g (i + 1) (omega arith));
       }
 
   module _ (newtons : ℕ) (p : 0 < newtons) where
@@ -101,12 +96,12 @@ module _ {t t′ : Tower} {w w′ : Wind} {rows rows′ : List ℕ} (k : Known t
     above-less =
         record {
           force = λ i h.
-              rw (force-in k i h, force-in k′ i (there h)) (band-force t w t′ w′ (k .valid) (k′ .valid) g newtons _ _ near near′ i h);
+              rw (k .force i h, k′ .force i (there h)) (band-force t w t′ w′ (k .valid) (k′ .valid) g newtons _ _ near near′ i h);
           shear = λ i h.
-              rw (shear-in k i h, shear-in k′ i (there h))
+              rw (k .shear i h, k′ .shear i (there h))
               (band-shear t w t′ w′ (k .valid) (k′ .valid) g newtons _ _ near near′ (i + 1) (omega arith) (omega arith));
           moment = λ i h.
-              rw (moment-in k i h, moment-in k′ i (there h))
+              rw (k .moment i h, k′ .moment i (there h))
               (band-moment t w t′ w′ (k .valid) (k′ .valid) g newtons _ _ near near′ (i + 1) (omega arith) (omega arith));
         }
 
