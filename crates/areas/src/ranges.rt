@@ -1,8 +1,7 @@
 // Whether groups, items and sections are within document 01's ranges.
 ghost use mathlib.Core.Path.{_≡_};
-ghost use mathlib.Core.Bool.{true, _&&_};
+ghost use mathlib.Core.Bool.{true};
 ghost use Prim.Native.Nat.{_≤_};
-ghost use lib.Dec.{leb};
 ghost use lib.ListN.{take};
 ghost use Rattle.model.specs.Lists.{allOf};
 ghost use Rattle.model.specs.Ranges as ranges;
@@ -60,21 +59,6 @@ pub fn fields_in_range(it: Item) -> bool
         return false;
     }
     within(POSITION_FACTOR, it.position as u32)
-}
-
-pub fn items_fit(items: [Item; 64], held: usize) -> bool
-    ensures { λ r. ⌜ r ≡ leb held 64 && allOf fieldsInRange (take held items) ⌝ }
-{
-    if 64 < held {
-        return false;
-    }
-    for i in 0usize..held {
-        let it = items[i];
-        if !fields_in_range(it) {
-            return false;
-        }
-    }
-    true
 }
 
 pub fn groups_fit(s: Section) -> bool

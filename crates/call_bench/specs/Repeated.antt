@@ -4,9 +4,10 @@ use mathlib.Core.Path.{_≡_}
 use mathlib.Core.Bool.{cond}
 use mathlib.Core.List.{List, [], _∷_, _++_}
 use lib.Dec.{eqb}
+use lib.ListN.{getD}
 use Rattle.model.specs.declared.Item.{Item}
 use Rattle.model.specs.Tower.{Wind}
-use Rattle.model.specs.Machine.{State, no-tower}
+use Rattle.model.specs.Machine.{State, no-tower, standing}
 use Rattle.model.specs.Calls.{Call, erect, hang, takeDown, wind, report, refusalOf, step, run, lentAfter}
 
 -- the state that erect and wind leave, from fresh
@@ -49,6 +50,20 @@ hangRound i = hang (dish (i % 1000)) ∷ takeDown (i % 1000) ∷ []
 abbrev pub erectRound : List ℕ → ℕ → List Call
 erectRound file i = erect file ∷ []
 
+-- the item that was hung first, or a dish where none hangs
+abbrev pub firstIn : State → Item
+firstIn no-tower = dish 0
+firstIn (standing t w) = getD (t .items) 0 (dish 0)
+
+-- the calls of a round in a state
+abbrev pub firstRound : State → List Call
+firstRound m = takeDown (firstIn m .number) ∷ hang (firstIn m) ∷ []
+
+-- the calls of the first n rounds, each in the state that the last one left
+unfoldable pub inTurn : (State → List Call) → State → ℕ → List Call
+inTurn round m zero = []
+inTurn round m (suc n) = inTurn round m n ++ round (run m (inTurn round m n))
+
 -- so many of the calls are accepted, modulo 2^64
 abbrev pub Counted : State → List Call → ℕ → Type 0
 Counted m cs r = r ≡ acceptedIn m cs % 2 ^ 64
@@ -60,6 +75,9 @@ pub record Reported (m : State) (rounds : ℕ) (before after : List ℕ) (r : �
 
 abbrev pub Hung : State → ℕ → ℕ → Type 0
 Hung m rounds r = Counted m (inRounds hangRound rounds) r
+
+abbrev pub FirstDown : State → ℕ → ℕ → Type 0
+FirstDown m rounds r = Counted m (inTurn firstRound m rounds) r
 
 abbrev pub Erected : State → List ℕ → ℕ → ℕ → Type 0
 Erected m file rounds r = Counted m (inRounds (erectRound file) rounds) r

@@ -1,30 +1,33 @@
-// Calls of the service, many times in one call, for a benchmark. Each function erects the file on a fresh service and sets the wind before it repeats a call, and answers how
-// many of the repeated calls are accepted, modulo 2^64.
+// Calls of the service, many times in one call, for a benchmark. Each function erects the file on a fresh service and
+// sets the wind before it repeats a call, and answers how many of the repeated calls are accepted, modulo 2^64.
 ghost use Prim.Native.Nat.{_+_, _%_, _^_};
 ghost use mathlib.Core.Path.{_≡_};
 ghost use Rattle.model.specs.Answers.{answerNumber};
-ghost use Rattle.service.specs.Held.{stateOf};
-ghost use Rattle.service.specs.Promises.{windAsked};
-ghost use Rattle.call_bench.specs.Repeated.{windy, once, dish, Reported, Hung, Erected};
+ghost use Rattle.slots.specs.Held.{stateOf};
+ghost use Rattle.slots.specs.Promises.{windAsked};
+ghost use Rattle.call_bench.specs.Repeated.{windy, once, dish, firstIn, Reported, Hung, Erected, FirstDown};
 use model::Answer;
 use model::Item;
-use service::State;
 use service::answers::report;
 use service::changes::erect;
+use service::changes::fresh;
 use service::changes::hang;
 use service::changes::set_wind;
 use service::changes::take_down;
-use service::whole::fresh;
+use slots::EMPTY;
+use slots::State;
+use slots::head::held_in;
+use slots::head::is_standing;
+use slots::items::item_of;
 use units::Length;
 
 // A call that is turned down leaves the state, so that all after it may be turned down too.
-fn windy(file: &[u8], direction: u32, ice: u32, factor: u32, pressures: &[u16]) -> State
-    ensures { λ r. ⌜ stateOf r ≡ windy (now (file .entry)) (windAsked direction ice factor (now (pressures .entry))) ⌝ }
+fn windy(s: &mut State, file: &[u8], direction: u32, ice: u32, factor: u32, pressures: &[u16])
+    ensures { λ r. ⌜ stateOf (now (s .exit)) ≡ windy (now (file .entry)) (windAsked direction ice factor (now (pressures .entry))) ⌝ }
 {
-    let erected = erect(fresh(), file);
-    let calm = erected.state;
-    let blown = set_wind(calm, direction, ice, factor, pressures);
-    blown.state
+    fresh(s);
+    erect(s, file);
+    set_wind(s, direction, ice, factor, pressures);
 }
 
 // One more where the call is accepted.
@@ -52,6 +55,28 @@ fn dish(number: u16) -> Item
     }
 }
 
+// The item that was hung first, or a dish where none hangs.
+fn first_of(s: &State) -> Item
+    ensures { λ r. ⌜ r ≡ firstIn (stateOf (now (s .entry))) ⌝ }
+{
+    if !is_standing(s) {
+        return dish(0);
+    }
+    if held_in(s) == 0 {
+        return dish(0);
+    }
+    let slot = s[65];
+    item_of(slot)
+}
+
+// The state as it is, in another place.
+fn keep(s: &State, kept: &mut State)
+    ensures { λ r. ⌜ now (kept .exit) ≡ now (s .entry) ⌝ }
+{
+    let x = *s;
+    *kept = x;
+}
+
 // Reports into out so many times.
 #[no_mangle]
 pub extern "C" fn report_bench(
@@ -65,10 +90,11 @@ pub extern "C" fn report_bench(
 ) -> u64
     ensures { λ r. ⌜ Reported (windy (now (file .entry)) (windAsked direction ice factor (now (pressures .entry)))) rounds (now (out .entry)) (now (out .exit)) r ⌝ }
 {
-    let state = windy(file, direction, ice, factor, pressures);
+    let mut state = EMPTY;
+    windy(&mut state, file, direction, ice, factor, pressures);
     let mut accepted: u64 = 0;
     for _ in 0u64..rounds {
-        accepted = counted(accepted, report(state, out));
+        accepted = counted(accepted, report(&state, out));
     }
     accepted
 }
@@ -85,18 +111,36 @@ pub extern "C" fn hang_bench(
 ) -> u64
     ensures { λ r. ⌜ Hung (windy (now (file .entry)) (windAsked direction ice factor (now (pressures .entry)))) rounds r ⌝ }
 {
-    let mut state = windy(file, direction, ice, factor, pressures);
+    let mut state = EMPTY;
+    windy(&mut state, file, direction, ice, factor, pressures);
     let mut accepted: u64 = 0;
     for i in 0u64..rounds {
         let number = (i % 1000) as u16;
-        let hung = hang(state, dish(number));
-        let hung_answer = hung.answer;
-        accepted = counted(accepted, hung_answer);
-        let more = hung.state;
-        let taken = take_down(more, number);
-        let taken_answer = taken.answer;
-        accepted = counted(accepted, taken_answer);
-        state = taken.state;
+        accepted = counted(accepted, hang(&mut state, dish(number)));
+        accepted = counted(accepted, take_down(&mut state, number));
+    }
+    accepted
+}
+
+// Takes down the item that was hung first and hangs it again, so many times.
+#[no_mangle]
+pub extern "C" fn first_down_bench(
+    file: &[u8],
+    direction: u32,
+    ice: u32,
+    factor: u32,
+    pressures: &[u16],
+    rounds: u64,
+) -> u64
+    ensures { λ r. ⌜ FirstDown (windy (now (file .entry)) (windAsked direction ice factor (now (pressures .entry)))) rounds r ⌝ }
+{
+    let mut state = EMPTY;
+    windy(&mut state, file, direction, ice, factor, pressures);
+    let mut accepted: u64 = 0;
+    for _ in 0u64..rounds {
+        let first = first_of(&state);
+        accepted = counted(accepted, take_down(&mut state, first.number));
+        accepted = counted(accepted, hang(&mut state, first));
     }
     accepted
 }
@@ -113,13 +157,33 @@ pub extern "C" fn erect_bench(
 ) -> u64
     ensures { λ r. ⌜ Erected (windy (now (file .entry)) (windAsked direction ice factor (now (pressures .entry)))) (now (file .entry)) rounds r ⌝ }
 {
-    let mut state = windy(file, direction, ice, factor, pressures);
+    let mut state = EMPTY;
+    windy(&mut state, file, direction, ice, factor, pressures);
     let mut accepted: u64 = 0;
     for _ in 0u64..rounds {
-        let erected = erect(state, file);
-        let answer = erected.answer;
-        accepted = counted(accepted, answer);
-        state = erected.state;
+        accepted = counted(accepted, erect(&mut state, file));
     }
     accepted
+}
+
+// Copies the state so many times, and reports once from the last copy.
+#[no_mangle]
+pub extern "C" fn keep_bench(
+    file: &[u8],
+    direction: u32,
+    ice: u32,
+    factor: u32,
+    pressures: &[u16],
+    rounds: u64,
+    out: &mut [u64],
+) -> u64
+    ensures { λ r. ⌜ Reported (windy (now (file .entry)) (windAsked direction ice factor (now (pressures .entry)))) 1 (now (out .entry)) (now (out .exit)) r ⌝ }
+{
+    let mut state = EMPTY;
+    windy(&mut state, file, direction, ice, factor, pressures);
+    let mut kept = state;
+    for _ in 0u64..rounds {
+        keep(&state, &mut kept);
+    }
+    counted(0, report(&kept, out))
 }

@@ -1,8 +1,7 @@
 // The items that hang on a tower: (SECTION WIDTH LENGTH BARE ICED POSITION)*.
 ghost use mathlib.Core.Path.{_≡_};
-ghost use Prim.Native.Nat.{_≤_, _<_};
-ghost use Rattle.model.specs.Lists.{listTo};
-ghost use Rattle.case_words.specs.Words.{itemOf, itemFrom, widthOn};
+ghost use Prim.Native.Nat.{_<_};
+ghost use Rattle.case_words.specs.Words.{itemOf, widthOn};
 use crate::words::to_u8;
 use crate::words::to_u32;
 use crate::words::word;
@@ -22,7 +21,8 @@ fn width_on(section: u64, width: u64) -> Length
     }
 }
 
-fn item_at(numbers: &[u64], place: usize) -> Item
+// The item whose numbers start at `place`.
+pub fn item_at(numbers: &[u64], place: usize) -> Item
     requires { ⌜ place < 1000 ⌝ }
     ensures { λ r. ⌜ r ≡ itemOf (now (numbers .entry)) place ⌝ }
 {
@@ -37,24 +37,4 @@ fn item_at(numbers: &[u64], place: usize) -> Item
         iced: word16(numbers, place + 4),
         position: word16(numbers, place + 5),
     }
-}
-
-// All 64 from `place` on, however many count.
-pub fn items_of(numbers: &[u64], place: usize) -> [Item; 64]
-    requires { ⌜ place ≤ 100 ⌝ }
-    ensures { λ r. ⌜ r ≡ listTo (itemFrom (now (numbers .entry)) place) 64 ⌝ }
-{
-    let mut items = [Item {
-        number: 0,
-        section: 0,
-        width: Length(0),
-        length: Length(0),
-        bare: 0,
-        iced: 0,
-        position: 0,
-    }; 64];
-    for i in 0usize..64 {
-        items[i] = item_at(numbers, place + 6 * i);
-    }
-    items
 }

@@ -1,8 +1,8 @@
 -- A file that is accepted and written is itself again, and written twice it is as written once.
-use Prim.Native.Nat.{ℕ, zero, suc, _+_, _-_, _^_, _≤_, _<_}
+use Prim.Native.Nat.{ℕ, _-_, _^_, _≤_, _<_}
 use mathlib.Core.Path.{_≡_, refl, ap, sym, _∙_}
 use mathlib.Core.Bool.{Bool, true, false, cond, _&&_}
-use mathlib.Core.List.{List, [], _∷_, _++_}
+use mathlib.Core.List.{List, [], _++_}
 use mathlib.Core.Option.{none}
 use native.Mathlib.Omega.{arith}
 use lib.Dec.{leb, ltb, eqb}
@@ -13,46 +13,44 @@ use Rattle.model.specs.declared.Answer.the-variants as answer
 use Rattle.model.specs.declared.Refusal.{Refusal}
 use Rattle.model.specs.declared.WriteAnswer.{WriteAnswer}
 use Rattle.model.specs.declared.WriteAnswer.the-variants as write
-use Rattle.model.specs.Answers.{refusalNumber}
-use Rattle.model.specs.Lists.{allOf}
+use Rattle.model.specs.Answers.{refusalNumber, writeReply}
 use Rattle.model.specs.Tower.{Tower, towerOf}
 use Rattle.model.specs.Reading.{got, refused}
 use Rattle.model.specs.File.{readFile}
 use Rattle.model.specs.Bytes.{fileOf}
-use Rattle.model.specs.Machine.{standing, filled, writeOut, WriteSays}
-use Rattle.model.specs.Calls.{bits}
+use Rattle.model.specs.Machine.{standing, filled}
+use Rattle.model.specs.Calls as call
+use Rattle.model.specs.Calls.{replyOf, lentAfter}
 use Rattle.model.proofs.Accepted.{same-bytes}
 use Rattle.model.proofs.Says.{write-length, write-room}
 use Rattle.tower_file.specs.declared.FileRead.{FileRead}
 use Rattle.tower_file.specs.Stored.{ReadsFile}
 use Rattle.tower_file.specs.Written.{WritesFile}
-use Rattle.exact.proofs.Bools.{and-join}
+use Rattle.tower_file.proofs.Filed.{all-bytes}
 use Rattle.file_bench.specs.Timed.{lengthIn, isAccepted, isTimed, answerOf, bytesOf, Timed}
-
--- a slice of bytes
-pub all-bytes : (l : List ℕ) → ((i : ℕ) → getD l i 0 < 256) → allOf (bits 8) l ≡ true
-all-bytes [] h = refl
-all-bytes (x ∷ l) h = and-join (lt-ltb x (2 ^ 8) (h 0)) (all-bytes l (λ i. h (suc i)))
 
 -- what a writing answers and leaves, by whether the lent bytes are enough
 module _ (t : Tower) where
   abbrev out : List ℕ → List ℕ
-  out lent = writeOut (standing t none) lent
+  out lent = lentAfter (standing t none) (call.write lent)
 
   abbrev front : List ℕ → List ℕ
   front lent = fileOf t ++ drop (length (fileOf t)) lent
 
-  answer-short : {room : ℕ} (w : WriteAnswer) → room < length (fileOf t) → WriteSays (standing t none) room w → lengthIn w ≡ 2 ^ 64 - 1
-  answer-short (write.Written n) h s = absurd (omega (arith, rw (lt-ltb _ _ h) at (write-length s .0)))
-  answer-short (write.Refused e) h s = refl
+  module _ (lent : List ℕ) (w : WriteAnswer) (s : writeReply w ≡ replyOf (standing t none) (call.write lent)) where
+    answer-short : length lent < length (fileOf t) → lengthIn w ≡ 2 ^ 64 - 1
+    answer-short h = by-answer w s
+      where
+        by-answer : (v : WriteAnswer) → writeReply v ≡ replyOf (standing t none) (call.write lent) → lengthIn v ≡ 2 ^ 64 - 1
+        by-answer (write.Written n) e = absurd (omega (arith, rw (lt-ltb _ _ h) at (write-length (standing t none) lent (sym e) .0)))
+        by-answer (write.Refused r) e = refl
 
-  answer-is : {room : ℕ} (w : WriteAnswer) → WriteSays (standing t none) room w
-      → lengthIn w ≡ cond (leb (length (fileOf t)) room) (length (fileOf t)) (2 ^ 64 - 1)
-  answer-is {room} w s = by-case (leb (length (fileOf t)) room) refl
-    where
-      by-case : (b : Bool) → leb (length (fileOf t)) room ≡ b → lengthIn w ≡ cond b (length (fileOf t)) (2 ^ 64 - 1)
-      by-case true e = ap lengthIn (write-room {m = standing t none} {room = room} (rw (le-ltb _ _ (leb-true _ _ e))) s)
-      by-case false e = answer-short w (leb-false _ _ e) s
+    answer-is : lengthIn w ≡ cond (leb (length (fileOf t)) (length lent)) (length (fileOf t)) (2 ^ 64 - 1)
+    answer-is = by-case (leb (length (fileOf t)) (length lent)) refl
+      where
+        by-case : (b : Bool) → leb (length (fileOf t)) (length lent) ≡ b → lengthIn w ≡ cond b (length (fileOf t)) (2 ^ 64 - 1)
+        by-case true e = ap lengthIn (write-room (standing t none) lent w (rw (le-ltb _ _ (leb-true _ _ e))) (sym s))
+        by-case false e = answer-short (leb-false _ _ e)
 
   module _ (lent : List ℕ) where
     out-enough : length (fileOf t) ≤ length lent → out lent ≡ front lent
@@ -106,7 +104,7 @@ accepted {file} {before} {r = r} {w} b p a q e =
     let s : fileOf t ≡ file = same-bytes file (all-bytes file b) k in
     let room : ℕ = length before in
     record {
-      answer = rw k (e ∙ answer-is t w (q .answer) ∙ ap (λ l. cond (leb (length l) room) (length l) (2 ^ 64 - 1)) s);
+      answer = rw k (e ∙ answer-is t before w (q .answer) ∙ ap (λ l. cond (leb (length l) room) (length l) (2 ^ 64 - 1)) s);
       bytes = rw k (q .bytes ∙ out-is t before ∙ ap (λ l. cond (leb (length l) room) (l ++ drop (length l) before) before) s);
     }
 

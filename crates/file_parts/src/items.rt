@@ -92,7 +92,7 @@ fn item_refusal(x: ItemRead) -> Refusal
 }
 
 // Whether one of the first items has the number.
-pub fn is_numbered(number: u16, items: [Item; 64], held: usize) -> bool
+fn is_numbered(number: u16, items: [Item; 64], held: usize) -> bool
     requires { ⌜ held ≤ 64 ⌝ }
     ensures { λ r. ⌜ r ≡ numbered number (take held items) ⌝ }
 {

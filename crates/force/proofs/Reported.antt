@@ -1,12 +1,12 @@
--- What follows from the promises of `section_load` and `item_sums`: the force is in the band and at most the
--- largest, it is the same for the same legs, section, items in any order and wind, and it is the report's. `Loaded` and `Summed`
--- are the functions' own contracts, of the values handed over and handed back.
+-- What follows from the promises of `section_load` and of slots' `item_sums`: the force is in the band and at most the
+-- largest, it is the same for the same legs, section, items in any order and wind, and it is the report's. `Loaded` is
+-- the function's own contract, of the values handed over and handed back; `ItemSums` is the promise of `item_sums`.
 use Prim.Native.Nat.{ℕ, _≤_, _<_}
 use mathlib.Core.Path.{_≡_, ap, sym, subst, _∙_}
 use mathlib.Core.Bool.{true}
 use mathlib.Core.List.{List, List·Permᴰ}
 use borrow.Author.Tests.{le-leb}
-use lib.ListN.{length, take, getD}
+use lib.ListN.{length, getD}
 use Rattle.units.specs.declared.Length.{Length}
 use Rattle.exact.specs.Number.{Sound, Within, Least}
 use Rattle.exact.proofs.Ceiling.{least-unique, ceiling-least, least-within}
@@ -25,16 +25,13 @@ use Rattle.model.proofs.Sections.{gross-bound}
 use Rattle.model.proofs.Forces.{fits-at, ice-at, solid-under}
 use Rattle.force.specs.declared.Load.{Load}
 use Rattle.areas.specs.Fits.{fitsUnder}
+use Rattle.areas.specs.Sums.{ItemSums}
 use Rattle.force.proofs.Loads.{section-known, stands}
 use Rattle.force.proofs.section.section_load.Reads as load-reads
-use Rattle.areas.proofs.items.item_sums.Reads as sum-reads
 
 abbrev pub Loaded : Legs → ℕ → Length → ℕ → stored.Section → ℕ → ℕ → Load → Type 0
 Loaded l k t factor s q items r =
     load-reads.Post tt (l, (k, (t, (factor, (s, (q, (items, tt))))))) r (l, (k, (t, (factor, (s, (q, (items, tt)))))))
-
-abbrev pub Summed : Length → List Item → ℕ → List ℕ → Type 0
-Summed t items held sums = sum-reads.Post tt (t, (items, (held, tt))) sums (t, (items, (held, tt)))
 
 -- exact ≤ force < exact + 1, and so within every wider band: document 01's is 2
 module _ (l : Legs) (k : ℕ) (t : Length) (factor : ℕ) (s : stored.Section) (q items : ℕ) (h : fitsUnder t s ≡ true) where
@@ -53,12 +50,12 @@ module _ (l : Legs) (k : ℕ) (t : Length) (factor : ℕ) (s : stored.Section) (
 
 -- two calls with the same legs, section, wind and items, these in any order
 module _ (l : Legs) (k : ℕ) (t : Length) (factor q i : ℕ) (h : i < 32) (s s′ : stored.Section) (e : sectionOf s ≡ sectionOf s′)
-    (xs ys : List Item) (held held′ : ℕ) (p : List·Permᴰ (take held xs) (take held′ ys)) where
-  pub sum-same : {n m : List ℕ} → Summed t xs held n → Summed t ys held′ m → getD n i 0 ≡ getD m i 0
+    {xs ys : List Item} (p : List·Permᴰ xs ys) where
+  pub sum-same : {n m : List ℕ} → ItemSums t xs n → ItemSums t ys m → getD n i 0 ≡ getD m i 0
   unfolding itemSum
   sum-same a b = a .sum i h ∙ sumBy-perm _ p ∙ sym (b .sum i h)
 
-  pub load-same : {n m : List ℕ} {r r′ : Load} → Summed t xs held n → Summed t ys held′ m
+  pub load-same : {n m : List ℕ} {r r′ : Load} → ItemSums t xs n → ItemSums t ys m
       → Loaded l k t factor s q (getD n i 0) r → Loaded l k t factor s′ q (getD m i 0) r′ → (r .areas ≡ r′ .areas) × (r .force .0 ≡ r′ .force .0)
   load-same {n} {m} {r} {r′} a b c d =
       let g : Least (exactForce l k t factor (sectionOf s′) q (getD m i 0)) (r .force .0) = rw (← e, ← sum-same a b) (c .1) in

@@ -4,20 +4,19 @@
 // The case's section is number 0: items on other sections do not count.
 ghost use Prim.Native.Nat.{_≤_};
 ghost use mathlib.Core.Path.{_≡_};
-ghost use mathlib.Core.Bool.{true};
-ghost use lib.ListN.{length, take};
-ghost use Rattle.model.specs.Lists.{allOf};
-ghost use Rattle.model.specs.File.{fieldsInRange};
+ghost use lib.ListN.{length};
+ghost use Rattle.model.specs.Lists.{listTo};
 ghost use Rattle.case_words.specs.Faults.{SoundCase};
-use areas::items::item_sums;
-use areas::ranges::items_fit;
+ghost use Rattle.case_words.specs.Words.{itemFrom};
+ghost use Rattle.force_cases.specs.Items.{ItemsPut};
+use areas::ranges::fields_in_range;
 use areas::section::thickness;
 use case_words::Case;
 use case_words::Fault;
 use case_words::case_of;
 use case_words::faults::fault_of;
 use case_words::faults::groups_end;
-use case_words::items::items_of;
+use case_words::items::item_at;
 use force::Load;
 use force::Way;
 use force::section::formula_load;
@@ -29,8 +28,11 @@ use lines::numbers::numbers_of;
 use lines::text::put;
 use lines::text::put_bytes;
 use lines::text::put_number;
-use model::Item;
 use model::numbers::legs_of;
+use slots::EMPTY;
+use slots::Slot;
+use slots::items::item_slot;
+use slots::items::item_sums;
 
 // What a line holds at most: 8 numbers, those of 8 groups, the number of items and those of 64 items.
 const MOST_NUMBERS: usize = 8 + 3 * 8 + 1 + 6 * 64;
@@ -53,6 +55,22 @@ struct Counts {
     bounds: u64,
     quotient: u64,
     squares: u64,
+}
+
+// The items from `place` on into the slots of items, unless one of them is out of range.
+fn put_items(numbers: &[u64], place: usize, held: usize, s: &mut [Slot]) -> bool
+    requires { ⌜ (place ≤ 100) × (held ≤ 64) × (length (now s) ≡ 129) ⌝ }
+    ensures { λ r. ⌜ ItemsPut (listTo (itemFrom (now (numbers .entry)) place) held) (now (s .exit)) r ⌝ }
+{
+    for i in 0usize..held {
+        let it = item_at(numbers, place + 6 * i);
+        if !fields_in_range(it) {
+            return false;
+        }
+        let at = 65 + i;
+        s[at] = item_slot(it);
+    }
+    true
 }
 
 // Each function from here to `answer` puts a line of output into out.
@@ -78,18 +96,18 @@ fn put_load(out: &mut [u8], load: Load, items: u64) -> usize
     put_number(out, at, load.force.0, b'\n')
 }
 
-fn answer_case(c: Case, items: [Item; 64], held: usize, out: &mut [u8]) -> Line
-    requires { ⌜ SoundCase c × (held ≤ 64) × (allOf fieldsInRange (take held items) ≡ true) ⌝ }
+fn answer_case(c: Case, s: &[Slot], held: usize, out: &mut [u8]) -> Line
+    requires { ⌜ SoundCase c × (length (now s) ≡ 129) × (held ≤ 64) ⌝ }
     ensures { λ r. ⌜ r .length ≤ length (now (out .entry)) ⌝ }
 {
     let t = thickness(c.ice);
-    let sums = item_sums(t, items, held);
+    let sums = item_sums(s, t, held);
     let sum = sums[0];
     let legs = legs_of(c.legs);
-    let s = c.section;
-    let load = section_load(legs, c.direction, t, c.factor, s, c.pressure, sum);
+    let x = c.section;
+    let load = section_load(legs, c.direction, t, c.factor, x, c.pressure, sum);
     let length = put_load(out, load, sum);
-    let full = formula_load(legs, c.direction, t, c.factor, s, c.pressure, sum);
+    let full = formula_load(legs, c.direction, t, c.factor, x, c.pressure, sum);
     let way = full.way;
     let told = Told::Decided(way);
     Line { length, told }
@@ -117,11 +135,11 @@ fn answer_items(c: Case, numbers: &[u64], out: &mut [u8]) -> Line
     if all < numbers.len() {
         return refuse(out, b"numbers are left over");
     }
-    let items = items_of(numbers, end + 1);
-    if !items_fit(items, held) {
+    let mut slots = EMPTY;
+    if !put_items(numbers, end + 1, held, &mut slots) {
         return refuse(out, b"an item is out of range");
     }
-    answer_case(c, items, held, out)
+    answer_case(c, &slots, held, out)
 }
 
 fn answer_numbers(numbers: &[u64], out: &mut [u8]) -> Line

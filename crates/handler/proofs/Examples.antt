@@ -1,69 +1,31 @@
--- Examples of the definitions that only the theorem about lists of lines names: what `Answers` says of two lines, the second one in the state that the first
--- one left, and that state; and slices of any lengths are `Lent`, in the room that these lengths are.
-use Prim.Native.Nat.{ℕ, _≤_, _<_}
+-- Examples: what is printed for two lines, the second one in the state that the first one left, that state, and what `Answers` says of both; and slices of
+-- any lengths are `Lent`, in the room that these lengths are.
+use Prim.Native.Nat.{ℕ, _≤_}
 use mathlib.Core.Path.{_≡_, refl, ap, sym, _∙_}
-use mathlib.Core.Bool.{true, true≢false}
-use mathlib.Core.List.{List, [], _∷_, _++_}
+use mathlib.Core.List.{List, [], _∷_}
 use native.Mathlib.Omega.{arith}
-use lib.Dec.{lit<, lit≤}
+use lib.Dec.{lit≤}
 use lib.ListN.{length}
 use Rattle.model.specs.Lists.{joined, sumBy}
 use Rattle.model.specs.Areas.{groupArea, gross, solidOf}
 use Rattle.model.specs.Reading.{field, ranged, many}
 use Rattle.model.specs.File.{readGroup, readGroups, readSection, readSections, readItemFields, readItem, readItems, readFile}
-use Rattle.model.specs.Machine.{State, no-tower, erectRefusal, erectStep}
-use Rattle.model.specs.declared.Refusal.{Refusal}
-use Rattle.model.specs.Answers.{refusalNumber}
-use Rattle.model.specs.Calls.{Call, erect, takeDown, check, refusalOf, step}
-use Rattle.model.proofs.Says.{refusal-positive}
+use Rattle.model.specs.Machine.{no-tower, erectRefusal}
+use Rattle.model.specs.declared.Refusal.the-variants as refusal
+use Rattle.model.specs.Calls.{erect, takeDown, refusalOf, step}
 use Rattle.model.proofs.Refused.{refused-state}
 use Rattle.lines.specs.Text.{ascii, decimalBy, decimal}
 use Rattle.lines.specs.Hex.{allHex, pairs, bytesIn}
 use Rattle.lines.specs.Numbers.{readTo}
-use Rattle.replies.specs.declared.Reply.{Reply}
-use Rattle.replies.specs.declared.Reply.the-variants as reply
-use Rattle.replies.specs.ReplyText.{replyText}
 use Rattle.bytes.specs.Bytes.{indexOf}
 use Rattle.requests.specs.Words.{firstWord, restOf, sameBytes, wordOf}
-use Rattle.requests.specs.Asked.{Asked, called, Room, takeDownAsked, erectText, askedBy, numbersText, askedAlone, askedText, askedIn}
+use Rattle.requests.specs.Asked.{called, Room, takeDownAsked, erectText, askedBy, numbersText, askedText, askedIn}
 use Rattle.requests.specs.Decoded.{roomOf}
-use Rattle.handler.specs.RequestSteps.{after, changesState, Replies, done, refused, over, none-over, rows-given, rows-refused, file-given, file-refused, help-given, no-request}
+use Rattle.handler.specs.AnswerText.{answerText}
+use Rattle.handler.specs.RequestSteps.{after}
 use Rattle.handler.specs.Sessions.{afterAll, Answers, none, more}
+use Rattle.handler.proofs.Stepping.{accepted-text, refused-text}
 use Rattle.handler.proofs.Sessions.{Lent}
-
-same-call : (c d : Call) → called c ≡ called d → c ≡ d
-same-call c d e = cc
-
-no-check : (c : Call) → changesState c ≡ true → called check ≡ called c → ⊥
-no-check c changes e = true≢false (sym changes ∙ ap changesState (sym (same-call check c e)))
-
--- what a call that may change the state is answered
-data Told (m : State) (c : Call) : Reply → Type 0 where
-  taken : refusalOf m c ≡ 0 → Told m c reply.Done
-  turned-down : {r : Refusal} → refusalNumber r ≡ refusalOf m c → Told m c (reply.Refused r)
-
-told : {m : State} {rows lent : List ℕ} {a : Asked} {x : Reply} (c : Call) → changesState c ≡ true → a ≡ called c → Replies m rows lent a x → Told m c x
-told {m} c changes e (done {c = d} k g) = taken (ap (refusalOf m) (sym (same-call d c e)) ∙ g)
-told {m} c changes e (refused {c = d} g) = turned-down (g ∙ ap (refusalOf m) (same-call d c e))
-told c changes e (over g) = absurd (no-check c changes e)
-told c changes e (none-over g) = absurd (no-check c changes e)
-told c changes e (rows-given g k l) = absurd (let z : _≡_ {A = ℕ} 0 1 = cc in omega arith)
-told c changes e (rows-refused g) = absurd (let z : _≡_ {A = ℕ} 0 1 = cc in omega arith)
-told c changes e (file-given g k l) = absurd (let z : _≡_ {A = ℕ} 0 1 = cc in omega arith)
-told c changes e (file-refused g) = absurd (let z : _≡_ {A = ℕ} 0 1 = cc in omega arith)
-told c changes e help-given = absurd (let z : _≡_ {A = ℕ} 0 1 = cc in omega arith)
-told c changes e no-request = absurd (let z : _≡_ {A = ℕ} 0 1 = cc in omega arith)
-
-module _ {m : State} {c : Call} (rows lent : List ℕ) where
-  accepted-text : {x : Reply} → refusalOf m c ≡ 0 → Told m c x → replyText rows lent x ≡ ascii "ok\n"
-  unfolding replyText
-  accepted-text h (taken g) = refl
-  accepted-text h (turned-down {r = r} g) = absurd (let z : refusalNumber r ≡ 0 = g ∙ h in omega (arith, refusal-positive r))
-
-  refused-text : {x : Reply} (n : ℕ) → 0 < n → refusalOf m c ≡ n → Told m c x → replyText rows lent x ≡ ascii "refused " ++ (decimal n ++ ascii "\n")
-  unfolding replyText
-  refused-text n p h (taken g) = absurd (omega (arith, g))
-  refused-text n p h (turned-down g) = rw (g ∙ h)
 
 -- a tower of one section, then an item that does not hang on it
 abbrev erectLine : List ℕ
@@ -91,15 +53,16 @@ unfolding erectRefusal joined sumBy groupArea gross solidOf field ranged many re
 erect-refusal = refl
 
 down-refusal : refusalOf (step no-tower (erect file)) (takeDown 7) ≡ 14
-unfolding erectStep joined sumBy groupArea gross solidOf field ranged many readGroup readGroups readSection readSections readItemFields readItem readItems readFile
+unfolding erectRefusal joined sumBy groupArea gross solidOf field ranged many readGroup readGroups readSection readSections readItemFields readItem readItems readFile
 down-refusal = refl
 
-down-text : {m : State} {rows lent : List ℕ} {x : Reply} → m ≡ step no-tower (erect file) → Replies m rows lent (askedIn room downLine) x
-    → replyText rows lent x ≡ ascii "refused 14\n"
+-- what is printed for each, in the state then
+pub erect-text : answerText no-tower (askedIn room erectLine) ≡ ascii "ok\n"
+erect-text = ap (answerText no-tower) erect-asked ∙ accepted-text no-tower (called (erect file)) erect-refusal
+
+pub down-text : answerText (after no-tower (askedIn room erectLine)) (askedIn room downLine) ≡ ascii "refused 14\n"
 unfolding decimal decimalBy
-down-text {m} {rows} {lent} e r =
-    let n : refusalOf m (takeDown 7) ≡ 14 = ap (λ (k : State). refusalOf k (takeDown 7)) e ∙ down-refusal in
-    refused-text rows lent 14 (lit< tt) n (told (takeDown 7) refl down-asked r)
+down-text = rw (erect-asked, down-asked) (refused-text (step no-tower (erect file)) (called (takeDown 7)) refusal.NoSuchItem (sym down-refusal))
 
 -- a text that has room
 roomy : {most : ℕ} {put text told : List ℕ} → text ≡ told → length told ≤ most → (length text ≤ most → put ≡ text) → put ≡ told
@@ -107,10 +70,7 @@ roomy e h g = g (rw e h) ∙ e
 
 pub two-lines : {s t : List ℕ} → Answers room 8192 no-tower (record { line = erectLine; text = s } ∷ record { line = downLine; text = t } ∷ [])
     → (s ≡ ascii "ok\n") × (t ≡ ascii "refused 14\n")
-two-lines (more {rows = rows} {file = lent} r₁ t₁ (more r₂ t₂ none)) = (
-  roomy (accepted-text rows lent erect-refusal (told (erect file) refl erect-asked r₁)) (lit≤ tt) t₁,
-  roomy (down-text (ap (after no-tower) erect-asked) r₂) (lit≤ tt) t₂,
-)
+two-lines (more t₁ (more t₂ none)) = (roomy erect-text (lit≤ tt) t₁, roomy down-text (lit≤ tt) t₂)
 
 pub after-lines : (s t : List ℕ) → afterAll room no-tower (record { line = erectLine; text = s } ∷ record { line = downLine; text = t } ∷ []) ≡ step no-tower (erect file)
 unfolding afterAll

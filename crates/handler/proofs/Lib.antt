@@ -2,6 +2,5 @@ pub mod Typed
 pub mod Asking
 pub mod Stepping
 pub mod Answering
-pub mod Responding
 pub mod Sessions
 pub mod Examples

@@ -8,13 +8,12 @@ use contract.Lifetimes.{Lfts}
 use denote.Ref.{RefT, now}
 use Rattle.model.specs.Machine.{State, no-tower}
 use Rattle.lines.specs.Text.{Puts}
-use Rattle.service.specs.declared.State as stored
-use Rattle.service.specs.Held.{stateOf}
-use Rattle.service.proofs.Links.{IsFresh}
-use Rattle.requests.specs.Asked.{Room, askedIn}
+use Rattle.slots.specs.Held.{Slots, stateOf}
+use Rattle.service.proofs.Links.{IsFresh, fresh-state}
+use Rattle.requests.specs.Asked.{Asked, Room, askedIn}
 use Rattle.requests.specs.Decoded.{roomOf}
-use Rattle.handler.specs.declared.Response.{Response}
-use Rattle.handler.specs.RequestSteps.{after, Replies}
+use Rattle.handler.specs.AnswerText.{answerText}
+use Rattle.handler.specs.RequestSteps.{after}
 use Rattle.handler.specs.Responds.{Responds}
 use Rattle.handler.specs.Sessions.{Exchange, afterAll, Answers, none, more}
 use Rattle.handler.proofs.respond.respond.Reads as respond-reads
@@ -37,41 +36,46 @@ put-whole : {text before out : List ℕ} {r most : ℕ} → Puts text before 0 o
 put-whole p e h = p .put (omega (arith, e)) .1
 
 -- each line is answered in the state that the last one left
-pub data Session (room : Room) (most : ℕ) : stored.State → List Exchange → stored.State → Type 0 where
-  ended : {s : stored.State} → Session room most s [] s
-  answered : (κ : Lfts 5) {s s′ : stored.State} (line numbers rows file out numbers₁ rows₁ file₁ out₁ : RefT (List ℕ)) {r : Response} {es : List Exchange}
-      → Lent room most (now numbers) (now rows) (now file) (now out)
-      → respond-reads.Post κ (s, (line, (numbers, (rows, (file, (out, tt)))))) r (s, (line, (numbers₁, (rows₁, (file₁, (out₁, tt))))))
-      → Session room most (r .state) es s′ → Session room most s (record { line = now line; text = take (r .length) (now out₁) } ∷ es) s′
+pub data Session (room : Room) (most : ℕ) : Slots → List Exchange → Slots → Type 0 where
+  ended : {s : Slots} → Session room most s [] s
+  answered : (κ : Lfts 6) (s next : RefT Slots) {s′ : Slots} (line numbers rows file out numbers₁ rows₁ file₁ out₁ : RefT (List ℕ)) {n : ℕ}
+      {es : List Exchange} → Lent room most (now numbers) (now rows) (now file) (now out)
+      → respond-reads.Post κ (s, (line, (numbers, (rows, (file, (out, tt)))))) n (next, (line, (numbers₁, (rows₁, (file₁, (out₁, tt))))))
+      → Session room most (now next) es s′ → Session room most (now s) (record { line = now line; text = take n (now out₁) } ∷ es) s′
 
 -- in a line's link, what stands for the sizes of the slices is the room
-link-responds : (κ : Lfts 5) {room : Room} {most : ℕ} {s : stored.State} (line numbers rows file out numbers₁ rows₁ file₁ out₁ : RefT (List ℕ)) {r : Response}
+link-responds : (κ : Lfts 6) {room : Room} {most : ℕ} (s next : RefT Slots) (line numbers rows file out numbers₁ rows₁ file₁ out₁ : RefT (List ℕ)) {n : ℕ}
     → Lent room most (now numbers) (now rows) (now file) (now out)
-    → respond-reads.Post κ (s, (line, (numbers, (rows, (file, (out, tt)))))) r (s, (line, (numbers₁, (rows₁, (file₁, (out₁, tt))))))
-    → Responds (askedIn room (now line)) s (now rows₁) (now file₁) (now out) (now out₁) r
-link-responds κ {s = s} line numbers rows file out numbers₁ rows₁ file₁ out₁ {r} l p =
-    subst (λ (x : Room). Responds (askedIn x (now line)) s (now rows₁) (now file₁) (now out) (now out₁) r) (room-is l) p
+    → respond-reads.Post κ (s, (line, (numbers, (rows, (file, (out, tt)))))) n (next, (line, (numbers₁, (rows₁, (file₁, (out₁, tt))))))
+    → Responds (askedIn room (now line)) (now s) (now next) (now out) (now out₁) n
+link-responds κ s next line numbers rows file out numbers₁ rows₁ file₁ out₁ {n} l p =
+    subst (λ (x : Room). Responds (askedIn x (now line)) (now s) (now next) (now out) (now out₁) n) (room-is l) p
+
+-- a line's step and its answer, in a machine's state that the slots are known to stand for
+module _ {a : Asked} {old new : Slots} {before out : List ℕ} {n : ℕ} (d : Responds a old new before out n) {m : State} (e : stateOf old ≡ m) where
+  next-is : stateOf new ≡ after m a
+  next-is = d .state ∙ ap (λ (x : State). after x a) e
+
+  text-is : Puts (answerText m a) before 0 out n
+  text-is = subst (λ (x : State). Puts (answerText x a) before 0 out n) e (d .text)
 
 module _ {room : Room} {most : ℕ} where
   -- the state at the end is the machine's after these lines
-  pub session-state : {s s′ : stored.State} {es : List Exchange} (m : State) → stateOf s ≡ m → Session room most s es s′ → stateOf s′ ≡ afterAll room m es
+  pub session-state : {s s′ : Slots} {es : List Exchange} (m : State) → stateOf s ≡ m → Session room most s es s′ → stateOf s′ ≡ afterAll room m es
   unfolding afterAll
   session-state m e ended = e
-  session-state m e (answered κ line numbers rows file out numbers₁ rows₁ file₁ out₁ l p more-lines) =
-      let d : _ = link-responds κ line numbers rows file out numbers₁ rows₁ file₁ out₁ l p in
-      session-state (after m (askedIn room (now line))) (d .state ∙ ap (λ (x : State). after x (askedIn room (now line))) e) more-lines
+  session-state m e (answered κ s next line numbers rows file out numbers₁ rows₁ file₁ out₁ l p more-lines) =
+      let d : _ = link-responds κ s next line numbers rows file out numbers₁ rows₁ file₁ out₁ l p in
+      session-state (after m (askedIn room (now line))) (next-is d e) more-lines
 
   -- and each answer is the machine's
-  pub session-answers : {s s′ : stored.State} {es : List Exchange} (m : State) → stateOf s ≡ m → Session room most s es s′ → Answers room most m es
+  pub session-answers : {s s′ : Slots} {es : List Exchange} (m : State) → stateOf s ≡ m → Session room most s es s′ → Answers room most m es
   session-answers m e ended = none
-  session-answers m e (answered κ line numbers rows file out numbers₁ rows₁ file₁ out₁ l p more-lines) =
-      let d : _ = link-responds κ line numbers rows file out numbers₁ rows₁ file₁ out₁ l p in
-      more
-      (subst (λ (x : State). Replies x (now rows₁) (now file₁) (askedIn room (now line)) (d .reply)) e (d .says))
-      (put-whole (d .text) (l .out))
-      (session-answers (after m (askedIn room (now line))) (d .state ∙ ap (λ (x : State). after x (askedIn room (now line))) e) more-lines)
+  session-answers m e (answered κ s next line numbers rows file out numbers₁ rows₁ file₁ out₁ l p more-lines) =
+      let d : _ = link-responds κ s next line numbers rows file out numbers₁ rows₁ file₁ out₁ l p in
+      more (put-whole (text-is d e) (l .out)) (session-answers (after m (askedIn room (now line))) (next-is d e) more-lines)
 
   -- from a fresh service on
-  pub session-from-fresh : {f s : stored.State} {es : List Exchange} → IsFresh f → Session room most f es s
+  pub session-from-fresh : {f s : Slots} {es : List Exchange} → IsFresh f → Session room most f es s
       → Answers room most no-tower es × (stateOf s ≡ afterAll room no-tower es)
-  session-from-fresh fresh h = (session-answers no-tower fresh h, session-state no-tower fresh h)
+  session-from-fresh fresh h = (session-answers no-tower (fresh-state fresh) h, session-state no-tower (fresh-state fresh) h)

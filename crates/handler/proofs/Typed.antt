@@ -3,15 +3,15 @@ use Prim.Native.Nat.{ℕ, _+_, _-_, _≤_, _<_}
 use mathlib.Core.Path.{_≡_, refl, sym, _∙_}
 use mathlib.Core.Bool.{Bool, true, false, _&&_}
 use mathlib.Core.List.{List}
+use native.Mathlib.Numerals.{add-one}
 use native.Mathlib.Omega.{arith}
 use lib.ListN.{length, getD, take, drop, set, length-drop, length-set}
-use lib.Seq.{take-all}
+use lib.Seq.{take-all, take-suc, take-suc-set}
 use Rattle.exact.proofs.Bools.{clash, and-join}
 use Rattle.model.specs.Lists.{allOf}
 use Rattle.model.specs.Calls.{bits}
 use Rattle.model.proofs.Lists.{all-more, all-fails}
 use Rattle.file_fields.proofs.Answered.{rest, rest-is}
-use Rattle.service.proofs.Filled.{copied-more}
 use Rattle.handler.specs.RequestSteps.{Stored}
 
 -- the tests of an item's numbers, one by one
@@ -59,7 +59,7 @@ module _ (w : ℕ) (numbers before : List ℕ) where
           most = omega arith;
           long = length-set out i (getD numbers i 0) ∙ k .long;
           fit = all-more (bits w) numbers i 0 h ∙ and-join (k .fit) e;
-          held = copied-more numbers out i 0 h (omega (arith, k .long)) (k .held);
+          held = rw (add-one, take-suc-set out i (getD numbers i 0) (omega (arith, k .long)), take-suc numbers i 0 h, k .held);
         }
 
     pub stored-not : i < length numbers → bits w (getD numbers i 0) ≡ false → Stored w numbers out false

@@ -1,3 +1,4 @@
+pub mod AnswerText
 pub mod RequestSteps
 pub mod Responds
 pub mod Sessions

@@ -4,10 +4,9 @@ use mathlib.Core.Path.{_≡_}
 use mathlib.Core.List.{List, [], _∷_}
 use lib.ListN.{length}
 use Rattle.model.specs.Machine.{State}
-use Rattle.replies.specs.declared.Reply.{Reply}
-use Rattle.replies.specs.ReplyText.{replyText}
 use Rattle.requests.specs.Asked.{Room, askedIn}
-use Rattle.handler.specs.RequestSteps.{after, Replies}
+use Rattle.handler.specs.AnswerText.{answerText}
+use Rattle.handler.specs.RequestSteps.{after}
 
 -- a line, and the text of the answer
 pub record Exchange : Type 0 where
@@ -19,9 +18,13 @@ unfoldable pub afterAll : Room → State → List Exchange → State
 afterAll room m [] = m
 afterAll room m (e ∷ es) = afterAll room (after m (askedIn room (e .line))) es
 
--- each answer is the text of a reply that document 01 has for the line in the machine's state then, where it has at most so many bytes
+-- the text that the machine has for a line, where that has at most so many bytes
+abbrev pub IsAnswer : Room → ℕ → State → Exchange → Type 0
+IsAnswer room most m e =
+    length (answerText m (askedIn room (e .line))) ≤ most → e .text ≡ answerText m (askedIn room (e .line))
+
+-- each answer is the machine's in its state then
 pub data Answers (room : Room) (most : ℕ) : State → List Exchange → Type 0 where
   none : {m : State} → Answers room most m []
-  more : {m : State} {e : Exchange} {es : List Exchange} {rows file : List ℕ} {x : Reply} → Replies m rows file (askedIn room (e .line)) x
-      → (length (replyText rows file x) ≤ most → e .text ≡ replyText rows file x) → Answers room most (after m (askedIn room (e .line))) es
-      → Answers room most m (e ∷ es)
+  more : {m : State} {e : Exchange} {es : List Exchange} → IsAnswer room most m e
+      → Answers room most (after m (askedIn room (e .line))) es → Answers room most m (e ∷ es)

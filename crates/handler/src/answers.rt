@@ -1,79 +1,69 @@
 // The requests that change nothing in the state. Each function takes the numbers behind the request's word.
 ghost use lib.ListN.{length};
 ghost use Rattle.requests.specs.Asked.{reportAsked, checkAsked, writeAsked, helpAsked};
+ghost use Rattle.slots.specs.Held.{Slots};
 ghost use Rattle.handler.specs.RequestSteps.{FillsRows, FillsFile, Changes};
-use crate::RequestStep;
 use crate::arguments::room_at;
-use crate::changes::is_wrong;
 use model::Answer;
 use model::CheckAnswer;
 use model::WriteAnswer;
 use replies::Fault;
-use replies::Reply;
-use service::State;
+use replies::Message;
 use service::answers::check;
 use service::answers::report;
 use service::answers::write;
+use slots::State;
+use slots::head::count_in;
 
 // The rows are put into `rows`.
-pub(crate) fn report_by(s: State, args: &[u64], rows: &mut [u64]) -> RequestStep
-    ensures { λ r. ⌜ FillsRows (reportAsked (length (now (rows .entry))) (now (args .entry))) s r (now (rows .exit)) ⌝ }
+pub(crate) fn report_by(s: &State, args: &[u64], rows: &mut [u64]) -> Message
+    ensures { λ r. ⌜ FillsRows (reportAsked (length (now (rows .entry))) (now (args .entry))) (now (s .entry)) (now (rows .exit)) r ⌝ }
 {
     if 1 < args.len() {
-        return is_wrong(s, Fault::ManyWords);
+        return Message::Wrong(Fault::ManyWords);
     }
     let room = room_at(args, rows.len());
     let answer = report(s, &mut rows[..room]);
     match answer {
-        Answer::Accepted => {
-            let tower = s.tower;
-            let reply = Reply::Rows(tower.count);
-            RequestStep { state: s, reply }
-        }
-        Answer::Refused(e) => {
-            let reply = Reply::Refused(e);
-            RequestStep { state: s, reply }
-        }
+        Answer::Accepted => Message::Rows(count_in(s)),
+        Answer::Refused(e) => Message::Refused(e),
     }
 }
 
-pub(crate) fn check_by(s: State, args: &[u64]) -> RequestStep
-    ensures { λ r. ⌜ Changes (checkAsked (now (args .entry))) s r ⌝ }
+pub(crate) fn check_by(s: &State, args: &[u64]) -> Message
+    ensures { λ r. ⌜ Changes (checkAsked (now (args .entry))) (now (s .entry)) (now (s .entry)) r ⌝ }
 {
     if 0 < args.len() {
-        return is_wrong(s, Fault::ManyWords);
+        return Message::Wrong(Fault::ManyWords);
     }
     let answer = check(s);
-    let reply = match answer {
-        CheckAnswer::Over(i) => Reply::Over(i),
-        CheckAnswer::NoneOver => Reply::NoneOver,
-        CheckAnswer::Refused(e) => Reply::Refused(e),
-    };
-    RequestStep { state: s, reply }
+    match answer {
+        CheckAnswer::Over(i) => Message::Over(i),
+        CheckAnswer::NoneOver => Message::NoneOver,
+        CheckAnswer::Refused(e) => Message::Refused(e),
+    }
 }
 
 // The bytes are put into `file`.
-pub(crate) fn write_by(s: State, args: &[u64], file: &mut [u8]) -> RequestStep
-    ensures { λ r. ⌜ FillsFile (writeAsked (length (now (file .entry))) (now (args .entry))) s r (now (file .exit)) ⌝ }
+pub(crate) fn write_by(s: &State, args: &[u64], file: &mut [u8]) -> Message
+    ensures { λ r. ⌜ FillsFile (writeAsked (length (now (file .entry))) (now (args .entry))) (now (s .entry)) (now (file .exit)) r ⌝ }
 {
     if 1 < args.len() {
-        return is_wrong(s, Fault::ManyWords);
+        return Message::Wrong(Fault::ManyWords);
     }
     let room = room_at(args, file.len());
     let answer = write(s, &mut file[..room]);
-    let reply = match answer {
-        WriteAnswer::Written(n) => Reply::File(n),
-        WriteAnswer::Refused(e) => Reply::Refused(e),
-    };
-    RequestStep { state: s, reply }
+    match answer {
+        WriteAnswer::Written(n) => Message::File(n),
+        WriteAnswer::Refused(e) => Message::Refused(e),
+    }
 }
 
-pub(crate) fn help_by(s: State, args: &[u64]) -> RequestStep
-    ensures { λ r. ⌜ Changes (helpAsked (now (args .entry))) s r ⌝ }
+pub(crate) fn help_by(args: &[u64]) -> Message
+    ensures { λ r. ⌜ ((s : Slots) → Changes (helpAsked (now (args .entry))) s s r) ⌝ }
 {
     if 0 < args.len() {
-        return is_wrong(s, Fault::ManyWords);
+        return Message::Wrong(Fault::ManyWords);
     }
-    let reply = Reply::Help;
-    RequestStep { state: s, reply }
+    Message::Help
 }

@@ -1,7 +1,4 @@
-// The service behind the requests: the state after a line, and the answer to it.
-use replies::Reply;
-use service::State;
-
+// The service behind the requests: what a line does to the state, and what is printed for it.
 mod answers;
 mod arguments;
 mod changes;
@@ -16,15 +13,3 @@ pub const ROWS: usize = 192;
 pub const FILE: usize = 3000;
 
 pub const TEXT: usize = 8192;
-
-// The state after a request, and the reply to it.
-pub(crate) struct RequestStep {
-    pub state: State,
-    pub reply: Reply,
-}
-
-// The state after a request, and the length of its answer.
-pub struct Response {
-    pub state: State,
-    pub length: usize,
-}

@@ -1,19 +1,25 @@
 -- What follows from the promise of the C call: it is erect, wind and report from fresh. `Called` is the function's own contract, of what is handed over and
 -- handed back.
 use Prim.Native.Nat.{ℕ, _*_, _/_}
-use mathlib.Core.Path.{_≡_, sym, subst, _∙_}
+use mathlib.Core.Path.{_≡_, refl, sym, subst, _∙_}
+use mathlib.Core.Bool.{cond}
 use mathlib.Core.List.{List, [], _∷_, _++_}
+use lib.Dec.{eqb}
 use lib.ListN.{length, drop}
 use contract.Lifetimes.{Lfts}
 use denote.Ref.{RefT, now}
 use Rattle.model.specs.Lists.{joined}
 use Rattle.model.specs.Bytes.{bytes}
-use Rattle.model.specs.Machine.{no-tower, rowsIn}
-use Rattle.model.specs.Calls.{Call, erect, wind, report, step, run, firstRefusal}
+use Rattle.model.specs.Machine.{State, no-tower, rowsIn}
+use Rattle.model.specs.Calls.{Call, erect, wind, report, refusalOf, step, run, firstRefusal}
 use Rattle.model.specs.Host.{hostWind}
 use Rattle.model.proofs.HostCall.{host-refusal, host-rows, host-out, host-out-refused}
 use Rattle.service.proofs.Links.{first-none}
 use Rattle.host.proofs.dembyhai_report.Reads as host-reads
+
+-- where a call is accepted and all after it are
+none-first : (m : State) (c : Call) (cs : List Call) → refusalOf m c ≡ 0 → firstRefusal (step m c) cs ≡ 0 → firstRefusal m (c ∷ cs) ≡ 0
+none-first m c cs z h = subst (λ (n : ℕ). cond (eqb n 0) (firstRefusal (step m c) cs) n ≡ 0) (sym z) h
 
 abbrev pub Called : Lfts 3 → RefT (List ℕ) → ℕ → ℕ → ℕ → RefT (List ℕ) → RefT (List ℕ) → ℕ → RefT (List ℕ) → Type 0
 Called κ file k ice factor ps rows r after =
@@ -38,7 +44,7 @@ module _ (κ : Lfts 3) (file : RefT (List ℕ)) (k ice factor : ℕ) (ps rows af
         let w : Call = wind (hostWind k ice factor (now ps)) in
         let a : _ = first-none no-tower e (w ∷ report out ∷ []) (sym host-first ∙ z) in
         let b : _ = first-none (step no-tower e) w (report out ∷ []) (a .1) in
-        rw (a .0, b .0)
+        none-first no-tower e (w ∷ []) (a .0) (none-first (step no-tower e) w [] (b .0) refl)
 
     -- the rows of the state that erect and wind leave, 8 bytes a number, and then the rest as it was
     pub host-given : r ≡ 0

@@ -8,7 +8,8 @@ use crate::row_bytes::write_report;
 use model::Answer;
 use model::numbers::refusal_number;
 use service::changes::erect;
-use service::whole::fresh;
+use service::changes::fresh;
+use slots::EMPTY;
 
 // A pressure has 2 bytes and a number of the rows 8, high byte first. The answer is 0, or the number of a refusal, which leaves all of rows.
 #[no_mangle]
@@ -22,17 +23,15 @@ pub extern "C" fn dembyhai_report(
 ) -> u32
     ensures { λ r. ⌜ Hosts (now (file .entry)) direction ice factor (now (pressures .entry)) (now (rows .entry)) (now (rows .exit)) r ⌝ }
 {
-    let erected = erect(fresh(), file);
-    let erect_answer = erected.answer;
-    if let Answer::Refused(e) = erect_answer {
+    let mut state = EMPTY;
+    fresh(&mut state);
+    let erected = erect(&mut state, file);
+    if let Answer::Refused(e) = erected {
         return refusal_number(e);
     }
-    let calm = erected.state;
-    let blown = set_wind_of(calm, direction, ice, factor, pressures);
-    let wind_answer = blown.answer;
-    if let Answer::Refused(e2) = wind_answer {
+    let blown = set_wind_of(&mut state, direction, ice, factor, pressures);
+    if let Answer::Refused(e2) = blown {
         return refusal_number(e2);
     }
-    let windy = blown.state;
-    write_report(windy, rows)
+    write_report(&state, rows)
 }

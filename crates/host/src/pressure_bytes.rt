@@ -1,17 +1,15 @@
 // The wind of a host program.
 ghost use mathlib.Core.Path.{_≡_};
-ghost use mathlib.Core.Bool.{true};
 ghost use Prim.Native.Nat.{_*_, _≤_};
 ghost use lib.ListN.{length, take};
-ghost use Rattle.model.specs.Tower.{towerOf};
+ghost use Rattle.model.specs.Answers.{answerReply};
 ghost use Rattle.model.specs.Host.{pressuresOf};
-ghost use Rattle.model.specs.Calls.{wind};
-ghost use Rattle.service.specs.Held.{whole};
-ghost use Rattle.service.specs.Promises.{Steps, windAsked};
-ghost use Rattle.host.specs.Promises.{pressuresAsked};
-use service::State;
-use service::Step;
+ghost use Rattle.slots.specs.Held.{countIn};
+ghost use Rattle.host.specs.Promises.{pressuresAsked, Winds};
+use model::Answer;
 use service::changes::set_wind;
+use slots::State;
+use slots::head::count_in;
 
 // So many pressures of 2 bytes each, high byte first.
 fn pressures_of(bytes: &[u8], count: usize) -> [u16; 32]
@@ -29,12 +27,17 @@ fn pressures_of(bytes: &[u8], count: usize) -> [u16; 32]
 }
 
 // Where there are not 2 bytes per section, wind is given no pressure, so that a tower with a section turns it down with 18 if not with 15, 16 or 17.
-pub(crate) fn set_wind_of(s: State, direction: u32, ice: u32, factor: u32, pressures: &[u8]) -> Step
-    requires { ⌜ whole s ≡ true ⌝ }
-    ensures { λ r. ⌜ Steps (wind (windAsked direction ice factor (pressuresAsked (length (towerOf (s .tower) .sections)) (now (pressures .entry))))) s r ⌝ }
+pub(crate) fn set_wind_of(
+    s: &mut State,
+    direction: u32,
+    ice: u32,
+    factor: u32,
+    pressures: &[u8],
+) -> Answer
+    ensures { λ r.
+        ⌜ Winds direction ice factor (pressuresAsked (countIn (now (s .entry))) (now (pressures .entry))) (now (s .entry)) (now (s .exit)) (answerReply r) ⌝ }
 {
-    let tower = s.tower;
-    let count = tower.count;
+    let count = count_in(s);
     if pressures.len() != 2 * count {
         let none = [0u16; 32];
         return set_wind(s, direction, ice, factor, &none[..0]);

@@ -28,7 +28,7 @@ use crate::pressures::PRINTED;
 use crate::pressures::WINDS;
 use crate::pressures::compared;
 use crate::pressures::mixed;
-use crate::pressures::pressed;
+use crate::pressures::press;
 use crate::pressures::standing;
 use draws::keys::bits;
 use libc::STDOUT_FILENO;
@@ -38,13 +38,13 @@ use lines::digest::numbers_digest;
 use model::Answer;
 use model::numbers::ANSWERS;
 use model::numbers::answer_number;
-use service::State;
 use service::answers::report;
-use service::whole::fresh;
+use service::changes::fresh;
+use slots::EMPTY;
+use slots::State;
 
-// A list up to some call: the state, a digest of the answers and of all that was lent, and how often each answer came, also in earlier lists.
+// A list up to some call: a digest of the answers and of all that was lent, and how often each answer came, also in earlier lists.
 struct Run {
-    state: State,
     digest: u64,
     counts: [u64; ANSWERS],
 }
@@ -78,44 +78,38 @@ fn counted(counts: [u64; ANSWERS], a: Answer) -> [u64; ANSWERS]
     more
 }
 
-fn new_run(state: State, counts: [u64; ANSWERS]) -> Run {
+fn new_run(counts: [u64; ANSWERS]) -> Run {
     Run {
-        state,
         digest: START,
         counts,
     }
 }
 
 // One call more.
-fn called(r: Run, list: u64, place: u64) -> Run {
-    let before = r.state;
-    let called = call(before, list, place);
-    let state = called.state;
-    let told = called.told;
+fn called(s: &mut State, r: Run, list: u64, place: u64) -> Run {
+    let told = call(s, list, place);
     let counts = r.counts;
     let answer = told.answer;
     let counts = counted(counts, answer);
     let digest = mix(mix(r.digest, answer_number(answer) as u64), told.rest);
-    Run {
-        state,
-        digest,
-        counts,
-    }
+    Run { digest, counts }
 }
 
 // The calls of a list from one place up to another.
-fn run_part(r: Run, list: u64, from: u64, to: u64) -> Run {
+fn run_part(s: &mut State, r: Run, list: u64, from: u64, to: u64) -> Run {
     let mut run = r;
     for place in from..to {
-        run = called(run, list, place);
+        run = called(s, run, list, place);
     }
     run
 }
 
 fn run_lists() -> [u64; ANSWERS] {
+    let mut state = EMPTY;
     let mut counts = [0u64; ANSWERS];
     for place in 0u64..2000 {
-        let run = run_part(new_run(fresh(), counts), bits(1, place), 0, 100);
+        fresh(&mut state);
+        let run = run_part(&mut state, new_run(counts), bits(1, place), 0, 100);
         let more = run.counts;
         let accepted = std::num::wrapping_sub_u64(more[0], counts[0]);
         let line = [place, accepted, run.digest];
@@ -136,7 +130,7 @@ fn print_rows(name: &[u8], rows: &[u64]) {
 }
 
 // The report of six sections.
-fn rows_of(s: State) -> [u64; 36] {
+fn rows_of(s: &State) -> [u64; 36] {
     let mut rows = [0u64; 36];
     report(s, &mut rows);
     rows
@@ -160,20 +154,21 @@ fn equal(a: [u64; 36], b: [u64; 36]) -> u64 {
 }
 
 // The million's list from this state on.
-fn run_million(state: State) -> Run {
+fn run_million(s: &mut State) -> Run {
     let counts = [0u64; ANSWERS];
-    let run = run_part(new_run(state, counts), MILLION, 0, DRAWN_END);
-    let amid = rows_of(run.state);
+    let run = run_part(s, new_run(counts), MILLION, 0, DRAWN_END);
+    let amid = rows_of(s);
     print_report(b"amid", &amid);
-    run_part(run, MILLION, DRAWN_END, END)
+    run_part(s, run, MILLION, DRAWN_END, END)
 }
 
 fn print_million() {
-    let state = start();
-    let first = rows_of(state);
+    let mut state = EMPTY;
+    start(&mut state);
+    let first = rows_of(&state);
     print_report(b"start", &first);
-    let run = run_million(state);
-    let last = rows_of(run.state);
+    let run = run_million(&mut state);
+    let last = rows_of(&state);
     print_report(b"end", &last);
     let counts = run.counts;
     print_counts(b"million", counts);
@@ -189,8 +184,10 @@ fn print_pressed(place: u64, rows: &[u64; 18]) {
 }
 
 fn print_pressures() {
-    let mut state = pressed(standing(), 0);
-    let mut rows = pressures::rows_of(state);
+    let mut state = EMPTY;
+    standing(&mut state);
+    press(&mut state, 0);
+    let mut rows = pressures::rows_of(&state);
     let mut digest = mixed(START, rows);
     let mut counts = Counts {
         more: 0,
@@ -199,8 +196,8 @@ fn print_pressures() {
     };
     print_pressed(0, &rows);
     for place in 1u64..WINDS {
-        state = pressed(state, place);
-        let next = pressures::rows_of(state);
+        press(&mut state, place);
+        let next = pressures::rows_of(&state);
         counts = compared(counts, rows, next);
         digest = mixed(digest, next);
         rows = next;

@@ -3,13 +3,13 @@ use crate::calls::erect_from;
 use draws::keys::bits;
 use draws::towers::bare_file;
 use draws::towers::sound_item;
+use model::Answer;
 use model::Item;
-use service::State;
-use service::Step;
+use service::changes::fresh;
 use service::changes::hang;
 use service::changes::set_wind;
 use service::changes::take_down;
-use service::whole::fresh;
+use slots::State;
 
 // Where the drawn calls end, where then all items have been taken down, and the end of the list.
 pub(crate) const DRAWN_END: u64 = 2_999_888;
@@ -26,26 +26,19 @@ fn numbered(number: u16) -> Item {
     sound_item(bits(bits(MILLION, 1), number as u64), number, 6)
 }
 
-// A tower of six sections.
-fn erected() -> State {
-    let step = erect_from(fresh(), bare_file(MILLION, 6));
-    step.state
-}
-
-// Twelve items hung in rising order, under a wind.
-pub(crate) fn start() -> State {
-    let mut state = erected();
+// A tower of six sections, twelve items hung in rising order, under a wind.
+pub(crate) fn start(s: &mut State) {
+    fresh(s);
+    erect_from(s, bare_file(MILLION, 6));
     for number in 0u16..12 {
-        let step = hang(state, numbered(number));
-        state = step.state;
+        hang(s, numbered(number));
     }
     let pressures = [1000u16, 950, 900, 850, 800, 750];
-    let step = set_wind(state, 4, 0, 1000, &pressures);
-    step.state
+    set_wind(s, 4, 0, 1000, &pressures);
 }
 
 // Hangs an item or takes one down. Which of both mostly, changes with the tide of 1000 calls.
-fn drawn_step(s: State, place: u64) -> Step {
+fn drawn_step(s: &mut State, place: u64) -> Answer {
     let key = bits(bits(MILLION, 2), place);
     let number = (bits(key, 0) % 100) as u16;
     let rising = place / 1000 % 2 == 0;
@@ -57,7 +50,7 @@ fn drawn_step(s: State, place: u64) -> Step {
 }
 
 // The call at a place: drawn, then each number taken down, then the first items hung in falling order.
-pub(crate) fn step_at(s: State, place: u64) -> Step {
+pub(crate) fn step_at(s: &mut State, place: u64) -> Answer {
     if place < DRAWN_END {
         return drawn_step(s, place);
     }

@@ -5,11 +5,11 @@ use draws::keys::bits;
 use draws::towers::bare_file;
 use draws::towers::sound_item;
 use lines::digest::mix;
-use service::State;
 use service::answers::report;
+use service::changes::fresh;
 use service::changes::hang;
 use service::changes::set_wind;
-use service::whole::fresh;
+use slots::State;
 
 // All winds: the first has no pressure, and under the last one every section has 5 000 N/m².
 pub(crate) const WINDS: u64 = 15_001;
@@ -28,15 +28,13 @@ pub(crate) struct Counts {
 }
 
 // The tower with four items, and no wind yet.
-pub(crate) fn standing() -> State {
-    let step = erect_from(fresh(), bare_file(PRESSED, 3));
-    let mut state = step.state;
+pub(crate) fn standing(s: &mut State) {
+    fresh(s);
+    erect_from(s, bare_file(PRESSED, 3));
     for number in 0u16..4 {
         let item = sound_item(bits(bits(PRESSED, 1), number as u64), number, 3);
-        let step = hang(state, item);
-        state = step.state;
+        hang(s, item);
     }
-    state
 }
 
 // A third of the winds so far, rounded down.
@@ -44,16 +42,15 @@ fn turns(winds: u64) -> u16 {
     (winds / 3 % 65_536) as u16
 }
 
-// The state under the wind of this place: the sections take turns from the top.
-pub(crate) fn pressed(s: State, place: u64) -> State {
+// The wind of this place: the sections take turns from the top.
+pub(crate) fn press(s: &mut State, place: u64) {
     let place = place % 65_536;
     let pressures = [turns(place + 2), turns(place + 1), turns(place)];
-    let step = set_wind(s, 4, 0, 1000, &pressures);
-    step.state
+    set_wind(s, 4, 0, 1000, &pressures);
 }
 
 // The report of three sections.
-pub(crate) fn rows_of(s: State) -> [u64; 18] {
+pub(crate) fn rows_of(s: &State) -> [u64; 18] {
     let mut rows = [0u64; 18];
     report(s, &mut rows);
     rows

@@ -5,7 +5,7 @@ use Rattle.model.specs.Areas.{groupArea, gross, solidOf, flowOf}
 use Rattle.model.specs.Reading.{field, ranged, many}
 use Rattle.model.specs.File.{readGroup, readGroups, readSection, readSections, readItemFields, readItem, readItems, readFile}
 use Rattle.model.specs.Bytes.{bytes, groupBytes, sectionBytes, itemBytes, fileOf}
-use Rattle.model.specs.Machine.{filled, erectRefusal, erectStep}
+use Rattle.model.specs.Machine.{filled, erectRefusal}
 use Rattle.model.specs.Report.{exceeds}
 use Rattle.model.specs.Host.{pressuresOf, hostRefusal}
 use Rattle.model.specs.Examples.{
@@ -27,7 +27,7 @@ use Rattle.model.specs.Examples.{
 use Rattle.model.proofs.TopmostExamples.{of-three, stated, exceeded}
 
 pub machine-examples : MachineExamples
-unfolding joined sumBy listTo groupArea gross solidOf flowOf field ranged many readGroup readGroups readSection readSections readItemFields readItem readItems readFile bytes groupBytes sectionBytes itemBytes fileOf filled erectRefusal erectStep exceeds pressuresOf hostRefusal fileWith group itemWith plain itemOf windWith gives holds files calls plainTower triangle largestTower
+unfolding joined sumBy listTo groupArea gross solidOf flowOf field ranged many readGroup readGroups readSection readSections readItemFields readItem readItems readFile bytes groupBytes sectionBytes itemBytes fileOf filled erectRefusal exceeds pressuresOf hostRefusal fileWith group itemWith plain itemOf windWith gives holds files calls plainTower triangle largestTower
 machine-examples =
     record {
       file = refl;

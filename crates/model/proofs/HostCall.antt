@@ -14,8 +14,8 @@ use Rattle.model.specs.Tower.{Tower, Wind}
 use Rattle.model.specs.Reading.{Parsed, got, refused}
 use Rattle.model.specs.File.{readFile}
 use Rattle.model.specs.Bytes.{bytes}
-use Rattle.model.specs.Machine.{no-tower, standing, filled, refuseIf, fileRefusal, erected, erectRefusal, erectStep, directionFits, isTooSolid, windRules, windRefusal, windStep, unlessRefused, rowsIn}
-use Rattle.model.specs.Calls.{erect, wind, report, firstRefusal, run}
+use Rattle.model.specs.Machine.{State, no-tower, standing, filled, refuseIf, fileRefusal, erected, erectRefusal, directionFits, isTooSolid, windRules, windRefusal, unlessRefused, rowsIn}
+use Rattle.model.specs.Calls.{erect, wind, report, step, firstRefusal, run}
 use Rattle.model.specs.Host.{pressuresOf, hostWind, afterFile, hostRefusal, hostRows, hostOut}
 use Rattle.model.proofs.Refused.{filled-refused}
 use Rattle.model.proofs.FileRefusals.{Numbered, taken, number, file-numbered}
@@ -79,13 +79,17 @@ module _ (t : Tower) (w : Wind) (rows : List ℕ) where
       go true = sym (alone _)
       go false = refl
 
+-- the state that erect leaves of a fresh service
+abbrev erectedAs : Parsed Tower → State
+erectedAs p = unlessRefused (fileRefusal p) no-tower (erected no-tower p)
+
 module _ (file : List ℕ) (k ice factor : ℕ) (ps : List ℕ) (m : ℕ) (even : length ps ≡ 2 * m) (room : ℕ) (rows : List ℕ) (as-long : length rows ≡ room / 8) where
   abbrev w : Wind
   w = hostWind k ice factor ps
 
   by-file : (p : Parsed Tower) → Numbered p
       → afterFile p w (length ps) room
-      ≡ cond (eqb (fileRefusal p) 0) (firstRefusal (erected no-tower p) (wind w ∷ report rows ∷ [])) (fileRefusal p)
+      ≡ cond (eqb (fileRefusal p) 0) (firstRefusal (erectedAs p) (wind w ∷ report rows ∷ [])) (fileRefusal p)
   by-file (refused n) (number l u) = let h : n ≡ 0 → ⊥ = λ (e : n ≡ 0). omega arith in rw (ne-eqb n 0 h)
   by-file (got t s) taken =
       let c : eqb (length ps) (2 * length (t .sections)) ≡ eqb (length (w .pressures)) (length (t .sections)) =
@@ -100,7 +104,7 @@ module _ (file : List ℕ) (k ice factor : ℕ) (ps : List ℕ) (m : ℕ) (even 
 
   -- its refusal is the first one of the three calls
   pub host-refusal : hostRefusal file k ice factor ps room ≡ firstRefusal no-tower (erect file ∷ wind w ∷ report rows ∷ [])
-  unfolding hostRefusal erectRefusal erectStep
+  unfolding hostRefusal erectRefusal
   host-refusal = by-file (readFile file) (file-numbered file)
 
 -- where there are not 2 bytes per section it is 18, unless a rule before that is met; so an odd number of bytes is never accepted
@@ -111,8 +115,8 @@ pub host-miscounted : (t : Tower) (rest : List ℕ) (w : Wind) (given room : ℕ
 host-miscounted t rest w given room h = rw (ne-eqb given (2 * length (t .sections)) h)
 
 rows-by-file : (w : Wind) (p : Parsed Tower) → Numbered p
-    → cond (eqb (fileRefusal p) 0) (firstRefusal (erected no-tower p) (wind w ∷ [])) (fileRefusal p) ≡ 0
-    → hostRows p w ≡ joined (bytes 8) (rowsIn (windStep (erected no-tower p) w))
+    → cond (eqb (fileRefusal p) 0) (firstRefusal (erectedAs p) (wind w ∷ [])) (fileRefusal p) ≡ 0
+    → hostRows p w ≡ joined (bytes 8) (rowsIn (step (erectedAs p) (wind w)))
 rows-by-file w (refused n) (number l u) e =
     let h : n ≡ 0 → ⊥ = λ (g : n ≡ 0). omega arith in
     absurd (h (rw (ne-eqb n 0 h) at e))
@@ -122,7 +126,7 @@ rows-by-file w (got t s) taken e =
 -- and its rows are those of the state that erect and wind leave, 8 bytes a number
 pub host-rows : (file : List ℕ) (w : Wind) → firstRefusal no-tower (erect file ∷ wind w ∷ []) ≡ 0
     → hostRows (readFile file) w ≡ joined (bytes 8) (rowsIn (run no-tower (erect file ∷ wind w ∷ [])))
-unfolding erectRefusal erectStep
+unfolding erectRefusal
 host-rows file w h = rows-by-file w (readFile file) (file-numbered file) h
 
 -- the lent bytes: as they were where the call is turned down, else the rows and then the rest as it was

@@ -15,6 +15,7 @@ pub mod Growing
 pub mod Rows
 pub mod RowsFit
 pub mod Samples
+pub mod Topmost
 pub mod TopmostExamples
 pub mod Examples
 pub mod StatementExamples
@@ -32,3 +33,4 @@ pub mod HostCall
 pub mod Typed
 pub mod Reached
 pub mod NewlyErected
+pub mod Named

@@ -230,6 +230,15 @@ either-way P false h g = g
 
 -- the elements that a test keeps
 module _ {A : Type 0} (p : A → Bool) where
+  pub kept-append : (l m : List A) → kept p (l ++ m) ≡ kept p l ++ kept p m
+  kept-append [] m = refl
+  kept-append (x ∷ l) m = by-case (p x) (kept-append l m)
+    where
+      by-case : (b : Bool) → kept p (l ++ m) ≡ kept p l ++ kept p m
+          → cond b (x ∷ kept p (l ++ m)) (kept p (l ++ m)) ≡ cond b (x ∷ kept p l) (kept p l) ++ kept p m
+      by-case true e = ap (λ (k : List A). x ∷ k) e
+      by-case false e = e
+
   pub length-kept : (l : List A) → length (kept p l) ≤ length l
   length-kept [] = omega arith
   length-kept (x ∷ xs) = either-way (λ (m : List A). length m ≤ length (x ∷ xs)) (p x) (omega (arith, length-kept xs)) (omega (arith, length-kept xs))

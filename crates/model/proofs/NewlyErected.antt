@@ -13,7 +13,7 @@ use Rattle.model.specs.Ranges.{sectionCount, itemCount}
 use Rattle.model.specs.Tower.{Tower, Wind}
 use Rattle.model.specs.Report.{rowsOf}
 use Rattle.model.specs.Bytes.{fileOf}
-use Rattle.model.specs.Machine.{State, no-tower, standing, erectRefusal, erectStep, withItems, hangRefusal}
+use Rattle.model.specs.Machine.{State, no-tower, standing, erectRefusal, withItems, hangRefusal}
 use Rattle.model.specs.Calls.{Call, erect, hang, wind, report, bits, typed, typedItem, refusalOf, step, run, lentLast, newlyErected, firstRefusal}
 use Rattle.model.specs.Valid.{itemFits, ValidTower, ValidWind}
 use Rattle.exact.proofs.Bools.{and-join}
@@ -22,6 +22,7 @@ use Rattle.model.proofs.Distinct.{distinct-perm, new-number}
 use Rattle.model.proofs.Sections.{in-range}
 use Rattle.model.proofs.Reorder.{rows-order}
 use Rattle.model.proofs.Rows.{report-rows}
+use Rattle.model.proofs.Refused.{same-state}
 use Rattle.model.proofs.RoundTrips.{bare-file, file-bytes}
 use Rattle.model.proofs.Reached.{fit-parts, hang-accepted, valid-items, valid-item-typed, valid-wind-typed}
 
@@ -77,7 +78,7 @@ module _ (t : Tower) (w : Wind) (v : ValidWind t w) (items : List Item) (p : Lis
 
   -- the calls before the report
   to-report : Leads no-tower (newlyErected t items w lent) (standing (withItems t items) (some w)) (report lent ∷ [])
-  unfolding erectRefusal erectStep
+  unfolding erectRefusal
   to-report =
       let read : _ = bare-file t (v .tower) .1 in
       leads-on
@@ -95,7 +96,7 @@ module _ (t : Tower) (w : Wind) (v : ValidWind t w) (items : List Item) (p : Lis
       (and-join (valid-wind-typed v) (and-join h refl)))
 
   pub newly-state : run no-tower (newlyErected t items w lent) ≡ standing (withItems t items) (some w)
-  newly-state = to-report .state
+  newly-state = to-report .state ∙ same-state (standing (withItems t items) (some w)) (report lent) refl
 
   module _ (room : 6 * length (t .sections) ≤ length lent) where
     -- none of these calls is turned down

@@ -1,7 +1,7 @@
 -- Every state that a list of calls comes to from a valid one is valid; and what a valid state holds is of its type, so that calls can be given it again.
 use Prim.Native.Nat.{ℕ, _^_, _≤_, _<_}
 use mathlib.Core.Path.{_≡_, refl}
-use mathlib.Core.Bool.{Bool, true, false, cond, not, and-assoc}
+use mathlib.Core.Bool.{Bool, true, false, cond, not}
 use mathlib.Core.List.{List, [], _∷_, _++_}
 use mathlib.Core.Option.{Option}
 use native.Mathlib.Omega.{arith}
@@ -17,8 +17,8 @@ use Rattle.model.specs.Ranges.{within, itemCount, itemWidth, itemLength,
 use Rattle.model.specs.Tower.{Tower, Wind}
 use Rattle.model.specs.Reading.{Parsed, got, refused}
 use Rattle.model.specs.File.{readFile, numbered, fieldsInRange}
-use Rattle.model.specs.Machine.{State, no-tower, standing, unlessRefused, erected, erectStep, withItems, hangRefusal, hung, hangStep, takeDownRefusal, without, takenDown, takeDownStep, directionFits, windRefusal, underWind, windStep}
-use Rattle.model.specs.Calls.{bits, typedItem, typedWind, Call, erect, hang, takeDown, wind, report, check, write, typed, step, run}
+use Rattle.model.specs.Machine.{State, no-tower, standing, unlessRefused, erected, withItems, hangRefusal, hung, without, takenDown, directionFits, windRefusal, underWind}
+use Rattle.model.specs.Calls.{bits, typedItem, typedWind, Call, erect, hang, takeDown, wind, report, check, write, typed, meaning, refusalOf, step, run}
 use Rattle.model.specs.Valid.{itemFits, distinct, ValidTower, ValidWind, ValidState, calm, windy}
 use Rattle.exact.proofs.Bools.{and-split, and-join}
 use Rattle.model.proofs.Lists.{all-grow, all-weaker, all-kept, length-kept}
@@ -82,10 +82,9 @@ erect-valid : (m : State) (p : Parsed Tower) → ((t : Tower) (rest : List ℕ) 
 erect-valid m (got t rest) h v = calm (h t rest refl)
 erect-valid m (refused n) h v = v
 
-hang-valid : (m : State) (it : Item) → bits 16 (it .number) ≡ true → ValidState m → ValidState (hangStep m it)
-hang-valid no-tower it b v = v
-hang-valid (standing t w) it b v =
-    unless-case ValidState (hangRefusal (standing t w) it) (standing t w) (hung (standing t w) it) v λ e.
+hang-valid : (m : State) (it : Item) → bits 16 (it .number) ≡ true → hangRefusal m it ≡ 0 → ValidState m → ValidState (hung m it)
+hang-valid no-tower it b e v = v
+hang-valid (standing t w) it b e v =
     let h : HangFacts t it = hang-facts t w it e in
     let u : ValidTower t = tower-in v in
     other-items v
@@ -93,31 +92,30 @@ hang-valid (standing t w) it b v =
     (all-grow (itemFits (length (t .sections))) (t .items) it (u .items) (and-join b (and-join (lt-ltb _ _ (h .there)) (h .fields))))
     (rw (distinct-more, h .new) (and-join (u .numbers) refl)))
 
-down-valid : (m : State) (n : ℕ) → ValidState m → ValidState (takeDownStep m n)
+down-valid : (m : State) (n : ℕ) → ValidState m → ValidState (takenDown m n)
 down-valid no-tower n v = v
 down-valid (standing t w) n v =
-    unless-case ValidState (takeDownRefusal (standing t w) n) (standing t w) (takenDown (standing t w) n) v λ e.
     let u : ValidTower t = tower-in v in
     let other : Item → Bool = λ it. not (eqb (it .number) n) in
     other-items v
     (valid-items u (without n (t .items)) (omega (arith, length-kept other (t .items), in-range itemCount (length (t .items)) (u .held) .high))
     (all-kept other (itemFits (length (t .sections))) (t .items) (u .items)) (distinct-kept other (t .items) (u .numbers)))
 
-wind-valid : (m : State) (w : Wind) → ValidState m → ValidState (windStep m w)
-wind-valid no-tower w v = v
-wind-valid (standing t old) w v =
-    unless-case ValidState (windRefusal (standing t old) w) (standing t old) (underWind (standing t old) w) v λ e.
-    windy (record { tower = tower-in v; accepted = e })
+wind-valid : (m : State) (w : Wind) → windRefusal m w ≡ 0 → ValidState m → ValidState (underWind m w)
+wind-valid no-tower w e v = v
+wind-valid (standing t old) w e v = windy (record { tower = tower-in v; accepted = e })
+
+next-valid : (m : State) (c : Call) → typed c ≡ true → ValidState m → refusalOf m c ≡ 0 → ValidState (meaning m c .next)
+next-valid m (erect file) h v e = erect-valid m (readFile file) (λ t rest q. accepted-valid file h q) v
+next-valid m (hang it) h v e = hang-valid m it (lt-ltb _ _ (item-bounds it h .number)) e v
+next-valid m (takeDown n) h v e = down-valid m n v
+next-valid m (wind w) h v e = wind-valid m w e v
+next-valid m (report lent) h v e = v
+next-valid m check h v e = v
+next-valid m (write lent) h v e = v
 
 pub step-valid : (m : State) (c : Call) → typed c ≡ true → ValidState m → ValidState (step m c)
-unfolding erectStep
-step-valid m (erect file) h v = erect-valid m (readFile file) (λ t rest e. accepted-valid file h e) v
-step-valid m (hang it) h v = hang-valid m it (lt-ltb _ _ (item-bounds it h .number)) v
-step-valid m (takeDown n) h v = down-valid m n v
-step-valid m (wind w) h v = wind-valid m w v
-step-valid m (report lent) h v = v
-step-valid m check h v = v
-step-valid m (write lent) h v = v
+step-valid m c h v = unless-case ValidState (refusalOf m c) m (meaning m c .next) v (next-valid m c h v)
 
 pub run-valid : (m : State) (cs : List Call) → allOf typed cs ≡ true → ValidState m → ValidState (run m cs)
 run-valid m [] h v = v

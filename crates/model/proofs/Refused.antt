@@ -1,41 +1,54 @@
--- A call that is turned down changes nothing: not the state, and not a lent slice.
+-- A call that is turned down changes nothing: not the state, and not a lent slice; and it answers its number alone.
 use Prim.Native.Nat.{ℕ}
 use mathlib.Core.Path.{_≡_, refl}
-use mathlib.Core.List.{List}
-use lib.ListN.{length}
+use mathlib.Core.Bool.{Bool, true, false, cond}
+use mathlib.Core.List.{List, []}
+use lib.Dec.{eqb}
 use borrow.Author.Tests.{ne-eqb}
 use Rattle.model.specs.Tower.{Tower}
 use Rattle.model.specs.Reading.{Parsed, got, refused}
 use Rattle.model.specs.File.{readFile}
-use Rattle.model.specs.Machine.{State, unlessRefused, filled, fileRefusal, erected, erectRefusal, erectStep, hangRefusal, hung, takeDownRefusal, takenDown, windRefusal, underWind, reportRefusal, rowsIn, writeRefusal, fileIn}
-use Rattle.model.specs.Calls.{Call, erect, hang, takeDown, wind, report, check, write, refusalOf, step, lentBefore, lentAfter}
+use Rattle.model.specs.Machine.{State, unlessRefused, filled, fileRefusal, erected, erectRefusal}
+use Rattle.model.specs.Calls.{Call, erect, meaning, refusalOf, step, replyOf, lentBefore, lentAfter}
 
-unless-refused : (n : ℕ) (old new : State) → (n ≡ 0 → ⊥) → unlessRefused n old new ≡ old
-unless-refused n old new h = rw (ne-eqb n 0 h)
+-- of what is chosen by a number, the second where it is not 0; and either, where the two are one
+otherwise : {A : Type 0} (n : ℕ) (x y : A) → (n ≡ 0 → ⊥) → cond (eqb n 0) x y ≡ y
+otherwise n x y h = rw (ne-eqb n 0 h)
+
+either : {A : Type 0} (b : Bool) (x : A) → cond b x x ≡ x
+either true x = refl
+either false x = refl
 
 pub filled-refused : (n : ℕ) (given lent : List ℕ) → (n ≡ 0 → ⊥) → filled n given lent ≡ lent
 unfolding filled
-filled-refused n given lent h = rw (ne-eqb n 0 h)
+filled-refused n given lent h = otherwise n _ lent h
 
-not-erected : (m : State) (p : Parsed Tower) → (fileRefusal p ≡ 0 → ⊥) → erected m p ≡ m
-not-erected m (got t rest) h = absurd (h refl)
-not-erected m (refused n) h = refl
+module _ (m : State) (c : Call) where
+  pub refused-state : (refusalOf m c ≡ 0 → ⊥) → step m c ≡ m
+  refused-state h = otherwise (refusalOf m c) (meaning m c .next) m h
 
-pub refused-state : (m : State) (c : Call) → (refusalOf m c ≡ 0 → ⊥) → step m c ≡ m
-unfolding erectRefusal erectStep
-refused-state m (erect file) h = not-erected m (readFile file) h
-refused-state m (hang it) h = unless-refused (hangRefusal m it) m (hung m it) h
-refused-state m (takeDown n) h = unless-refused (takeDownRefusal m n) m (takenDown m n) h
-refused-state m (wind w) h = unless-refused (windRefusal m w) m (underWind m w) h
-refused-state m (report lent) h = refl
-refused-state m check h = refl
-refused-state m (write lent) h = refl
+  pub refused-values : (refusalOf m c ≡ 0 → ⊥) → replyOf m c .values ≡ []
+  refused-values h = otherwise (refusalOf m c) (meaning m c .values) [] h
 
-pub refused-lent : (m : State) (c : Call) → (refusalOf m c ≡ 0 → ⊥) → lentAfter m c ≡ lentBefore c
-refused-lent m (erect file) h = refl
-refused-lent m (hang it) h = refl
-refused-lent m (takeDown n) h = refl
-refused-lent m (wind w) h = refl
-refused-lent m (report lent) h = filled-refused (reportRefusal m (length lent)) (rowsIn m) lent h
-refused-lent m check h = refl
-refused-lent m (write lent) h = filled-refused (writeRefusal m (length lent)) (fileIn m) lent h
+  pub refused-lent : (refusalOf m c ≡ 0 → ⊥) → lentAfter m c ≡ lentBefore c
+  refused-lent h = filled-refused (refusalOf m c) (meaning m c .given) (lentBefore c) h
+
+  -- a call whose meaning changes no state, or answers no value, or gives nothing
+  pub same-state : meaning m c .next ≡ m → step m c ≡ m
+  same-state e = rw e (either (eqb (refusalOf m c) 0) m)
+
+  pub no-values : meaning m c .values ≡ [] → replyOf m c .values ≡ []
+  no-values e = rw e (either (eqb (refusalOf m c) 0) [])
+
+  pub same-lent : meaning m c .given ≡ [] → lentAfter m c ≡ lentBefore c
+  unfolding filled
+  same-lent e = rw e (either (eqb (refusalOf m c) 0) (lentBefore c))
+
+-- erect: a file that is turned down leaves the state either way
+erected-either : (m : State) (p : Parsed Tower) → unlessRefused (fileRefusal p) m (erected m p) ≡ erected m p
+erected-either m (got t rest) = refl
+erected-either m (refused n) = either (eqb n 0) m
+
+pub erect-state : (m : State) (file : List ℕ) → step m (erect file) ≡ erected m (readFile file)
+unfolding erectRefusal
+erect-state m file = erected-either m (readFile file)

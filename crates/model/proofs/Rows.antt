@@ -12,7 +12,8 @@ use lib.Seq.{getD-append-add}
 use borrow.Author.Tests.{le-ltb, eqb-true, eqb-false}
 use Rattle.model.specs.Tower.{Tower, Wind}
 use Rattle.model.specs.Report.{areasAt, forceAt, shearAt, momentAt, row, rowAt, rowsTo, rowsOf}
-use Rattle.model.specs.Machine.{standing, filled, reportOut}
+use Rattle.model.specs.Machine.{standing, filled}
+use Rattle.model.specs.Calls.{report, lentAfter}
 
 module _ (t : Tower) (w : Wind) where
   pub length-row : (i : ℕ) → length (rowAt t w i) ≡ 6
@@ -71,6 +72,6 @@ module _ (t : Tower) (w : Wind) where
 
   -- an accepted report: the rows, and then the rest of the lent slice as it was
   pub report-rows : (lent : List ℕ) → 6 * length (t .sections) ≤ length lent
-      → reportOut (standing t (some w)) lent ≡ rowsOf t w ++ drop (6 * length (t .sections)) lent
+      → lentAfter (standing t (some w)) (report lent) ≡ rowsOf t w ++ drop (6 * length (t .sections)) lent
   unfolding filled
   report-rows lent h = rw (le-ltb (length lent) (6 * length (t .sections)) h, length-rows (length (t .sections)))

@@ -1,6 +1,6 @@
--- What the answers of check and write say, taken apart, and the refusals' numbers.
+-- What a reply says, above all those of check and write, and the refusals' numbers.
 use Prim.Native.Nat.{ℕ, _+_, _-_, _≤_, _<_}
-use mathlib.Core.Path.{_≡_, refl, ap}
+use mathlib.Core.Path.{_≡_, refl, ap, sym, _∙_}
 use mathlib.Core.Bool.{false, not}
 use mathlib.Core.List.{List, [], _∷_}
 use mathlib.Core.Option.{some}
@@ -16,11 +16,15 @@ use Rattle.model.specs.declared.WriteAnswer.{WriteAnswer}
 use Rattle.model.specs.declared.WriteAnswer.the-variants as write
 use Rattle.model.specs.declared.Refusal.{Refusal}
 use Rattle.model.specs.declared.Refusal.the-variants as refusal
-use Rattle.model.specs.Answers.{refusalNumber, highestRefusal, answerNumber}
+use Rattle.model.specs.Answers.{Reply, accepts, refuses, refusalNumber, highestRefusal, answerReply, answerNumber, checkReply, writeReply}
 use Rattle.model.specs.Tower.{Tower, Wind}
-use Rattle.model.specs.Report.{sectionAt, shearAt, exceeds, IsOver}
-use Rattle.model.specs.Machine.{State, standing, checkRefusal, CheckSays, over, none-over, turned-down, writeRefusal, fileIn, WriteSays, written}
+use Rattle.model.specs.Report.{sectionAt, shearAt, exceeds, IsOver, TopmostOver}
+use Rattle.model.specs.Machine.{State, standing, checkRefusal, writeRefusal, fileIn}
+use Rattle.model.specs.Calls as call
+use Rattle.model.specs.Calls.{Call, meaning, refusalOf, replyOf}
 use Rattle.exact.proofs.Bools.{clash, and-split}
+use Rattle.model.proofs.Refused.{refused-values, no-values}
+use Rattle.model.proofs.Topmost.{topmost-is, topmost-none, is-topmost, none-topmost}
 
 -- a section is over exactly if it is a section, states an allowance, and its reported shear is above that
 pub record Over (t : Tower) (w : Wind) (i : ℕ) : Type 0 where
@@ -46,23 +50,6 @@ over-only {t} {w} {i} h =
 pub none-more : {t : Tower} {w : Wind} (n : ℕ) → ((i : ℕ) → i < n → IsOver t w i → ⊥) → exceeds (shearAt t w (n + 1)) (sectionAt t n .allowance) ≡ false
     → (i : ℕ) → i < n + 1 → IsOver t w i → ⊥
 none-more n h e = below-more _ n h (λ o. clash (o .over) e)
-
-module _ {t : Tower} {w : Wind} where
-  -- the section that check names is over, and none above it is
-  pub check-over : {i : ℕ} → CheckSays (standing t (some w)) (check.Over i) → Over t w i
-  check-over (over h) = over-only (h .is-over)
-
-  pub check-topmost : {i : ℕ} → CheckSays (standing t (some w)) (check.Over i) → (j : ℕ) → j < i → Over t w j → ⊥
-  check-topmost (over h) j k g = h .none-above j k (over-if g)
-
-  pub check-none : CheckSays (standing t (some w)) check.NoneOver → (i : ℕ) → Over t w i → ⊥
-  check-none (none-over h) i g = h i (over-if g)
-
-pub check-refused : {m : State} {r : Refusal} → CheckSays m (check.Refused r) → refusalNumber r ≡ checkRefusal m
-check-refused (turned-down e) = e
-
-pub write-length : {m : State} {room n : ℕ} → WriteSays m room (write.Written n) → (writeRefusal m room ≡ 0) × (n ≡ length (fileIn m))
-write-length (written e h) = (e, h)
 
 -- the refusals in the order of their numbers
 abbrev pub refusals : List Refusal
@@ -134,7 +121,54 @@ pub answer-highest : (a : Answer) → answerNumber a ≤ highestRefusal
 answer-highest answer.Accepted = lit≤ tt
 answer-highest (answer.Refused r) = refusal-highest r
 
--- write fills where there is room
-pub write-room : {m : State} {room : ℕ} {r : WriteAnswer} → writeRefusal m room ≡ 0 → WriteSays m room r → r ≡ write.Written (length (fileIn m))
-write-room e (written z n) = ap write.Written n
-write-room e (turned-down {r = r} n) = absurd (omega (arith, refusal-positive r, n, e))
+-- the reply to a call: of one that is accepted, of one that is turned down, of one that answers a number alone
+same-reply : {n k : ℕ} {v u : List ℕ} → n ≡ k → v ≡ u → _≡_ {A = Reply} (record { number = n; values = v }) (record { number = k; values = u })
+same-reply e f = rw (e, f)
+
+module _ (m : State) (c : Call) where
+  pub accepted-reply : refusalOf m c ≡ 0 → replyOf m c ≡ accepts (meaning m c .values)
+  accepted-reply e = rw e
+
+  pub refused-reply : (r : Refusal) → refusalNumber r ≡ refusalOf m c → replyOf m c ≡ refuses r
+  refused-reply r e = same-reply (sym e) (refused-values m c (λ (z : refusalOf m c ≡ 0). omega (arith, refusal-positive r)))
+
+  pub number-reply : (a : Answer) → meaning m c .values ≡ [] → answerNumber a ≡ refusalOf m c → replyOf m c ≡ answerReply a
+  number-reply answer.Accepted v e = same-reply (sym e) (no-values m c v)
+  number-reply (answer.Refused r) v e = same-reply (sym e) (no-values m c v)
+
+-- the section that check names is the topmost over; it says that none is over exactly if none is
+module _ {t : Tower} {w : Wind} where
+  pub over-reply : {i : ℕ} → TopmostOver t w i → replyOf (standing t (some w)) call.check ≡ checkReply (check.Over i)
+  over-reply h = ap accepts (topmost-is h)
+
+  pub none-reply : ((i : ℕ) → IsOver t w i → ⊥) → replyOf (standing t (some w)) call.check ≡ checkReply check.NoneOver
+  none-reply h = ap accepts (topmost-none h)
+
+  pub reply-over : {i : ℕ} → replyOf (standing t (some w)) call.check ≡ checkReply (check.Over i) → TopmostOver t w i
+  reply-over e = is-topmost (ap (λ (r : Reply). r .values) e)
+
+  pub check-over : {i : ℕ} → replyOf (standing t (some w)) call.check ≡ checkReply (check.Over i) → Over t w i
+  check-over e = over-only (reply-over e .is-over)
+
+  pub check-topmost : {i : ℕ} → replyOf (standing t (some w)) call.check ≡ checkReply (check.Over i) → (j : ℕ) → j < i → Over t w j → ⊥
+  check-topmost e j k g = reply-over e .none-above j k (over-if g)
+
+  pub check-none : replyOf (standing t (some w)) call.check ≡ checkReply check.NoneOver → (i : ℕ) → Over t w i → ⊥
+  check-none e i g = none-topmost (ap (λ (r : Reply). r .values) e) i (over-if g)
+
+pub check-refused : (m : State) (r : Refusal) → replyOf m call.check ≡ checkReply (check.Refused r) → refusalNumber r ≡ checkRefusal m
+check-refused m r e = sym (ap (λ (x : Reply). x .number) e)
+
+-- write answers the file's length, and fills where there is room
+module _ (m : State) (lent : List ℕ) where
+  pub write-length : {n : ℕ} → replyOf m (call.write lent) ≡ writeReply (write.Written n)
+      → (writeRefusal m (length lent) ≡ 0) × (n ≡ length (fileIn m))
+  write-length {n} e =
+      let z : writeRefusal m (length lent) ≡ 0 = ap (λ (r : Reply). r .number) e in
+      let k : n ∷ [] ≡ length (fileIn m) ∷ [] = ap (λ (r : Reply). r .values) (sym e ∙ accepted-reply m (call.write lent) z) in
+      (z, cc)
+
+  pub write-room : (r : WriteAnswer) → writeRefusal m (length lent) ≡ 0 → replyOf m (call.write lent) ≡ writeReply r
+      → r ≡ write.Written (length (fileIn m))
+  write-room (write.Written n) z e = ap write.Written (write-length e .1)
+  write-room (write.Refused r) z e = absurd (omega (arith, refusal-positive r, ap (λ (x : Reply). x .number) e))

@@ -1,10 +1,14 @@
--- Document 01, "When a call is turned down": the number of each refusal, and of each answer that is a number alone.
--- The answers of check and write have values too: Machine has `CheckSays` and `WriteSays`.
+-- Document 01, "When a call is turned down": the number of each refusal, and the number and values of each answer.
 use Prim.Native.Nat.{ℕ}
+use mathlib.Core.List.{List, [], _∷_}
 use Rattle.model.specs.declared.Refusal.{Refusal}
 use Rattle.model.specs.declared.Refusal.the-variants as refusal
 use Rattle.model.specs.declared.Answer.{Answer}
 use Rattle.model.specs.declared.Answer.the-variants as answer
+use Rattle.model.specs.declared.CheckAnswer.{CheckAnswer}
+use Rattle.model.specs.declared.CheckAnswer.the-variants as check
+use Rattle.model.specs.declared.WriteAnswer.{WriteAnswer}
+use Rattle.model.specs.declared.WriteAnswer.the-variants as write
 
 abbrev pub refusalNumber : Refusal → ℕ
 refusalNumber refusal.NoTower = 1
@@ -34,7 +38,33 @@ refusalNumber refusal.OutputShort = 22
 abbrev pub highestRefusal : ℕ
 highestRefusal = 22
 
--- 0 where the call is accepted, and else the refusal's number
+-- an answer as document 01 has it: 0 or the refusal's number, and the values that are answered beside it
+pub record Reply : Type 0 where
+  pub number : ℕ
+  pub values : List ℕ
+
+abbrev pub accepts : List ℕ → Reply
+accepts values = record { number = 0; values = values }
+
+abbrev pub refuses : Refusal → Reply
+refuses r = record { number = refusalNumber r; values = [] }
+
+-- the answer of erect, hang, take down, wind and report
+abbrev pub answerReply : Answer → Reply
+answerReply answer.Accepted = accepts []
+answerReply (answer.Refused r) = refuses r
+
+-- the answer of check: a section, or none
+abbrev pub checkReply : CheckAnswer → Reply
+checkReply (check.Over i) = accepts (i ∷ [])
+checkReply check.NoneOver = accepts []
+checkReply (check.Refused r) = refuses r
+
+-- the answer of write: the length of the file
+abbrev pub writeReply : WriteAnswer → Reply
+writeReply (write.Written n) = accepts (n ∷ [])
+writeReply (write.Refused r) = refuses r
+
+-- an answer that is a number alone
 abbrev pub answerNumber : Answer → ℕ
-answerNumber answer.Accepted = 0
-answerNumber (answer.Refused r) = refusalNumber r
+answerNumber a = answerReply a .number

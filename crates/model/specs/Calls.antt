@@ -7,22 +7,27 @@ use lib.ListN.{length}
 use Rattle.model.specs.declared.Item.{Item}
 use Rattle.model.specs.Lists.{allOf}
 use Rattle.model.specs.Tower.{Tower, Wind}
+use Rattle.model.specs.Answers.{Reply}
+use Rattle.model.specs.File.{readFile}
 use Rattle.model.specs.Bytes.{fileOf}
 use Rattle.model.specs.Machine.{
   State,
+  unlessRefused,
+  filled,
   erectRefusal,
-  erectStep,
+  erected,
   hangRefusal,
-  hangStep,
+  hung,
   takeDownRefusal,
-  takeDownStep,
+  takenDown,
   windRefusal,
-  windStep,
+  underWind,
   reportRefusal,
-  reportOut,
+  rowsIn,
   checkRefusal,
+  overIn,
   writeRefusal,
-  writeOut,
+  fileIn,
   withItems,
 }
 
@@ -64,25 +69,38 @@ typed (report lent) = allOf (bits 64) lent
 typed check = true
 typed (write lent) = allOf (bits 8) lent
 
--- the first refusal whose condition is met, or 0
-abbrev pub refusalOf : State → Call → ℕ
-refusalOf m (erect file) = erectRefusal file
-refusalOf m (hang it) = hangRefusal m it
-refusalOf m (takeDown n) = takeDownRefusal m n
-refusalOf m (wind w) = windRefusal m w
-refusalOf m (report lent) = reportRefusal m (length lent)
-refusalOf m check = checkRefusal m
-refusalOf m (write lent) = writeRefusal m (length lent)
+-- what a call means in a state: the number of the first refusal whose condition is met, or 0; and where that is 0 the next
+-- state, the values answered beside the number, and what is put at the front of the lent slice
+pub record Meaning : Type 0 where
+  pub refusal : ℕ
+  pub next : State
+  pub values : List ℕ
+  pub given : List ℕ
 
--- the state after a call; report, check and write change nothing in it
+-- a call that changes the state and no more
+abbrev pub changes : ℕ → State → Meaning
+changes refusal next = record { refusal = refusal; next = next; values = []; given = [] }
+
+-- report, check and write leave the state as it is
+abbrev pub meaning : State → Call → Meaning
+meaning m (erect file) = changes (erectRefusal file) (erected m (readFile file))
+meaning m (hang it) = changes (hangRefusal m it) (hung m it)
+meaning m (takeDown n) = changes (takeDownRefusal m n) (takenDown m n)
+meaning m (wind w) = changes (windRefusal m w) (underWind m w)
+meaning m (report lent) = record { refusal = reportRefusal m (length lent); next = m; values = []; given = rowsIn m }
+meaning m check = record { refusal = checkRefusal m; next = m; values = overIn m; given = [] }
+meaning m (write lent) =
+    record { refusal = writeRefusal m (length lent); next = m; values = length (fileIn m) ∷ []; given = fileIn m }
+
+-- for every call: its refusal, the state after it, its answer
+abbrev pub refusalOf : State → Call → ℕ
+refusalOf m c = meaning m c .refusal
+
 abbrev pub step : State → Call → State
-step m (erect file) = erectStep m file
-step m (hang it) = hangStep m it
-step m (takeDown n) = takeDownStep m n
-step m (wind w) = windStep m w
-step m (report lent) = m
-step m check = m
-step m (write lent) = m
+step m c = unlessRefused (refusalOf m c) m (meaning m c .next)
+
+abbrev pub replyOf : State → Call → Reply
+replyOf m c = record { number = refusalOf m c; values = cond (eqb (refusalOf m c) 0) (meaning m c .values) [] }
 
 -- what the slice that a call is lent holds before and after it; [] where none is lent
 abbrev pub lentBefore : Call → List ℕ
@@ -95,13 +113,7 @@ lentBefore check = []
 lentBefore (write lent) = lent
 
 abbrev pub lentAfter : State → Call → List ℕ
-lentAfter m (erect file) = file
-lentAfter m (hang it) = []
-lentAfter m (takeDown n) = []
-lentAfter m (wind w) = w .pressures
-lentAfter m (report lent) = reportOut m lent
-lentAfter m check = []
-lentAfter m (write lent) = writeOut m lent
+lentAfter m c = filled (refusalOf m c) (meaning m c .given) (lentBefore c)
 
 -- the state after a list of calls, each given the state that the last one left
 abbrev pub run : State → List Call → State

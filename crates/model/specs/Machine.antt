@@ -1,6 +1,5 @@
 -- Document 01, "The plain machine", and "When a call is turned down" for each of its calls.
 use Prim.Native.Nat.{ℕ, _*_, _%_}
-use mathlib.Core.Path.{_≡_}
 use mathlib.Core.Bool.{Bool, cond, not, _&&_}
 use mathlib.Core.List.{List, [], _∷_, _++_}
 use mathlib.Core.Option.{Option, none, some}
@@ -9,11 +8,6 @@ use lib.ListN.{length, drop}
 use Rattle.model.specs.declared.Legs.{Legs}
 use Rattle.model.specs.declared.Legs.the-variants.{Three, Four}
 use Rattle.model.specs.declared.Item.{Item}
-use Rattle.model.specs.declared.CheckAnswer.{CheckAnswer}
-use Rattle.model.specs.declared.CheckAnswer.the-variants as check
-use Rattle.model.specs.declared.WriteAnswer.{WriteAnswer}
-use Rattle.model.specs.declared.WriteAnswer.the-variants as write
-use Rattle.model.specs.Answers.{refusalNumber}
 use Rattle.model.specs.Lists.{anyOf, allOf, kept}
 use Rattle.model.specs.Ranges.{within, itemCount, directions, iceClasses, structureFactor, pressures}
 use Rattle.model.specs.Tower.{Section, Tower, Wind}
@@ -21,7 +15,7 @@ use Rattle.model.specs.Areas.{thickness, gross, solidOf}
 use Rattle.model.specs.Reading.{Parsed, got, refused}
 use Rattle.model.specs.File.{readFile, numbered, fieldsInRange}
 use Rattle.model.specs.Bytes.{fileOf}
-use Rattle.model.specs.Report.{rowsOf, IsOver, TopmostOver}
+use Rattle.model.specs.Report.{rowsOf, topmostOver}
 
 -- no tower; or a tower, and a wind or none. A fresh service has no tower.
 pub data State : Type 0 where
@@ -52,9 +46,6 @@ erected m (refused n) = m
 unfoldable pub erectRefusal : List ℕ → ℕ
 erectRefusal file = fileRefusal (readFile file)
 
-unfoldable pub erectStep : State → List ℕ → State
-erectStep m file = erected m (readFile file)
-
 -- hang: the item joins at the list's end
 abbrev pub hangRefusal : State → Item → ℕ
 hangRefusal no-tower it = 1
@@ -72,9 +63,6 @@ abbrev pub hung : State → Item → State
 hung no-tower it = no-tower
 hung (standing t w) it = standing (withItems t (t .items ++ (it ∷ []))) w
 
-abbrev pub hangStep : State → Item → State
-hangStep m it = unlessRefused (hangRefusal m it) m (hung m it)
-
 -- take down: removes the item; the others keep their order
 abbrev pub takeDownRefusal : State → ℕ → ℕ
 takeDownRefusal no-tower n = 1
@@ -86,9 +74,6 @@ without n items = kept (λ (it : Item). not (eqb (it .number) n)) items
 abbrev pub takenDown : State → ℕ → State
 takenDown no-tower n = no-tower
 takenDown (standing t w) n = standing (withItems t (without n (t .items))) w
-
-abbrev pub takeDownStep : State → ℕ → State
-takeDownStep m n = unlessRefused (takeDownRefusal m n) m (takenDown m n)
 
 -- wind: replaces the wind. k means 15 degrees times k from the normal of face 1; with three legs only even k
 abbrev pub directionFits : Legs → ℕ → Bool
@@ -116,9 +101,6 @@ abbrev pub underWind : State → Wind → State
 underWind no-tower w = no-tower
 underWind (standing t old) w = standing t (some w)
 
-abbrev pub windStep : State → Wind → State
-windStep m w = unlessRefused (windRefusal m w) m (underWind m w)
-
 -- report: six numbers per section into a lent slice of `room` elements
 abbrev pub reportRefusal : State → ℕ → ℕ
 reportRefusal no-tower room = 1
@@ -130,19 +112,16 @@ rowsIn no-tower = []
 rowsIn (standing t none) = []
 rowsIn (standing t (some w)) = rowsOf t w
 
-abbrev pub reportOut : State → List ℕ → List ℕ
-reportOut m lent = filled (reportRefusal m (length lent)) (rowsIn m) lent
-
 -- check: the topmost section over its allowance, or that none is
 abbrev pub checkRefusal : State → ℕ
 checkRefusal no-tower = 1
 checkRefusal (standing t none) = 21
 checkRefusal (standing t (some w)) = 0
 
-pub data CheckSays : State → CheckAnswer → Type 0 where
-  over : {t : Tower} {w : Wind} {i : ℕ} → TopmostOver t w i → CheckSays (standing t (some w)) (check.Over i)
-  none-over : {t : Tower} {w : Wind} → ((i : ℕ) → IsOver t w i → ⊥) → CheckSays (standing t (some w)) check.NoneOver
-  turned-down : {m : State} {r : _} → refusalNumber r ≡ checkRefusal m → CheckSays m (check.Refused r)
+abbrev pub overIn : State → List ℕ
+overIn no-tower = []
+overIn (standing t none) = []
+overIn (standing t (some w)) = topmostOver t w
 
 -- write: the file into a lent slice of `room` bytes, and its length
 abbrev pub writeRefusal : State → ℕ → ℕ
@@ -152,10 +131,3 @@ writeRefusal (standing t w) room = refuseIf (ltb room (length (fileOf t))) 22 0
 abbrev pub fileIn : State → List ℕ
 fileIn no-tower = []
 fileIn (standing t w) = fileOf t
-
-abbrev pub writeOut : State → List ℕ → List ℕ
-writeOut m lent = filled (writeRefusal m (length lent)) (fileIn m) lent
-
-pub data WriteSays : State → ℕ → WriteAnswer → Type 0 where
-  written : {m : State} {room n : ℕ} → writeRefusal m room ≡ 0 → n ≡ length (fileIn m) → WriteSays m room (write.Written n)
-  turned-down : {m : State} {room : ℕ} {r : _} → refusalNumber r ≡ writeRefusal m room → WriteSays m room (write.Refused r)

@@ -4,14 +4,14 @@ use mathlib.Core.Path.{_≡_}
 use mathlib.Core.Bool.{Bool, true, not, _&&_}
 use mathlib.Core.List.{List, [], _∷_, _++_}
 use lib.Dec.{eqb, ltb}
-use lib.ListN.{length, getD}
+use lib.ListN.{length, getD, take}
 use Rattle.units.specs.declared.Length.{Length}
 use Rattle.units.specs.declared.Force.{Force}
 use Rattle.units.specs.declared.Moment.{Moment}
 use Rattle.exact.specs.Number.{Exact, ceiling}
 use Rattle.exact.specs.Sum.{Term}
 use Rattle.model.specs.declared.Areas.{Areas}
-use Rattle.model.specs.Lists.{sumTo, listTo}
+use Rattle.model.specs.Lists.{sumTo, listTo, kept}
 use Rattle.model.specs.Tower.{Section, Tower, Wind}
 use Rattle.model.specs.Areas.{thickness, areasOf}
 use Rattle.model.specs.Force.{itemSum, exactForce}
@@ -99,11 +99,22 @@ unfoldable pub exceeds : Force → Force → Bool
 exceeds shear allowance = not (eqb (allowance .0) 0) && ltb (allowance .0) (shear .0)
 
 -- section i is over its allowance: the reported shear at its foot exceeds it
+abbrev pub isOver : Tower → Wind → ℕ → Bool
+isOver t w i = exceeds (shearAt t w (i + 1)) (sectionAt t i .allowance)
+
 pub record IsOver (t : Tower) (w : Wind) (i : ℕ) : Type 0 where
   pub section : i < length (t .sections)
-  pub over : exceeds (shearAt t w (i + 1)) (sectionAt t i .allowance) ≡ true
+  pub over : isOver t w i ≡ true
 
 -- section i is the topmost one over: it is over its allowance, and none above it is
 pub record TopmostOver (t : Tower) (w : Wind) (i : ℕ) : Type 0 where
   pub is-over : IsOver t w i
   pub none-above : (j : ℕ) → j < i → IsOver t w j → ⊥
+
+-- the sections over their allowances, from the top; and the topmost of them, or none. By proofs/Topmost `topmostOver` has i
+-- exactly if section i is the topmost over, and nothing exactly if none is over
+unfoldable pub overSections : Tower → Wind → List ℕ
+overSections t w = kept (isOver t w) (listTo (λ i. i) (length (t .sections)))
+
+unfoldable pub topmostOver : Tower → Wind → List ℕ
+topmostOver t w = take 1 (overSections t w)

@@ -1,26 +1,27 @@
--- Examples of the definitions that stand in the statements of the customer's demands and in no function's promise: arguments of their types, what is lent
--- before a call, accepted, the tower newly erected, the sum of the arms, two reports under different pressures. No code fails where one of these is
--- wrong, so an example does.
+-- Examples of the definitions that stand in the statements of the customer's demands and in no function's promise:
+-- arguments of their types, what is lent before a call, the outcome of each call, accepted, the tower newly erected, the
+-- sum of the arms, two reports under different pressures. No code fails where one of these is wrong, so an example does.
 use Prim.Native.Nat.{ℕ, _+_, _≤_, _<_}
 use mathlib.Core.Path.{_≡_}
-use mathlib.Core.Bool.{Bool, true, false, not}
+use mathlib.Core.Bool.{true, not}
 use mathlib.Core.List.{List, [], _∷_, _++_, map}
-use mathlib.Core.Option.{some}
+use mathlib.Core.Option.{Option, none, some}
 use lib.ListN.{getD, replicate}
 use Rattle.model.specs.declared.Legs.the-variants.{Four}
 use Rattle.model.specs.declared.Answer.the-variants as answer
 use Rattle.model.specs.declared.CheckAnswer.the-variants as check-answer
 use Rattle.model.specs.declared.WriteAnswer.the-variants as write-answer
 use Rattle.model.specs.declared.Refusal.the-variants as refusal
-use Rattle.model.specs.Lists.{allOf}
 use Rattle.model.specs.declared.Item.{Item}
+use Rattle.model.specs.Lists.{allOf}
+use Rattle.model.specs.Answers.{Reply, answerReply, checkReply, writeReply}
 use Rattle.model.specs.Tower.{Section, Tower, Wind}
-use Rattle.model.specs.Machine.{no-tower, standing, withItems}
-use Rattle.model.specs.Report.{armsTo}
+use Rattle.model.specs.Machine.{State, no-tower, standing, withItems}
+use Rattle.model.specs.Report.{armsTo, rowsOf}
 use Rattle.model.specs.MorePressure.{NoLower, AboveLess, NoLess}
 use Rattle.model.specs.Calls.{Call, erect, hang, takeDown, wind, report, check, write, typed, lentBefore, run, newlyErected, firstRefusal, lentLast}
-use Rattle.model.specs.Outcomes.{Reply, answered, checked, written, numberAlone, Outcome, isAccepted, lastLent}
-use Rattle.model.specs.Examples.{plain, item, itemOf, windWith, plainTower, erectFour, steady, secondWind}
+use Rattle.model.specs.Outcomes.{Outcome, outcomeOf, isAccepted, lastLent}
+use Rattle.model.specs.Examples.{fileWith, group, itemWith, plain, item, itemOf, windWith, plainTower, threeAllowing, threePressed, erectFour, steady, secondWind}
 
 -- every call, each argument with the greatest value of its parameter's type, and with 0
 unfoldable pub widest : List Call
@@ -54,23 +55,57 @@ wider =
     ∷ write (0 ∷ 256 ∷ [])
     ∷ []
 
-abbrev pub told : List ℕ → Reply → Outcome
-told lent reply = record { reply = reply; lent = lent }
+-- an outcome: the number, the values beside it, what is lent
+abbrev pub told : ℕ → List ℕ → List ℕ → Outcome
+told number values lent = record { reply = record { number = number; values = values }; lent = lent }
 
--- every answer that accepts, and every kind of answer that refuses
-unfoldable pub accepting : List Outcome
+-- one of every kind of answer that accepts, and of every kind that refuses
+unfoldable pub accepting : List Reply
 accepting =
-    told [] (answered answer.Accepted)
-    ∷ told [] (checked (check-answer.Over 1))
-    ∷ told [] (checked check-answer.NoneOver)
-    ∷ told [] (written (write-answer.Written 19))
+    answerReply answer.Accepted
+    ∷ checkReply (check-answer.Over 1)
+    ∷ checkReply check-answer.NoneOver
+    ∷ writeReply (write-answer.Written 19)
     ∷ []
 
-unfoldable pub refusing : List Outcome
+unfoldable pub refusing : List Reply
 refusing =
-    told [] (answered (answer.Refused refusal.NoTower))
-    ∷ told [] (checked (check-answer.Refused refusal.NoWind))
-    ∷ told [] (written (write-answer.Refused refusal.OutputShort))
+    answerReply (answer.Refused refusal.NoTower)
+    ∷ checkReply (check-answer.Refused refusal.NoWind)
+    ∷ writeReply (write-answer.Refused refusal.OutputShort)
+    ∷ []
+
+abbrev pub withReply : Reply → Outcome
+withReply r = record { reply = r; lent = [] }
+
+-- the tower of `plain 4` with item 7, under a wind or none
+abbrev pub standsIn : Option Wind → State
+standsIn w = standing (plainTower (itemOf 7 0 300 ∷ [])) w
+
+unfoldable pub fileWithItem : List ℕ
+fileWithItem = fileWith 4 2000 6000 1 (group 0 100 24_000) 1 (itemWith 7 0 300)
+
+-- every call, accepted there under a wind, and turned down there under none
+unfoldable pub accepted : List Call
+accepted =
+    erect (plain 3)
+    ∷ hang (itemOf 8 0 300)
+    ∷ takeDown 7
+    ∷ wind secondWind
+    ∷ report (replicate 7 9)
+    ∷ check
+    ∷ write (replicate 34 9)
+    ∷ []
+
+unfoldable pub turnedDown : List Call
+turnedDown =
+    erect (5 ∷ [])
+    ∷ hang (itemOf 7 0 300)
+    ∷ takeDown 8
+    ∷ windWith 24 0 1000 (1000 ∷ [])
+    ∷ report (replicate 7 9)
+    ∷ check
+    ∷ write (replicate 31 9)
     ∷ []
 
 -- a section of this height, and a tower of two
@@ -111,13 +146,34 @@ pub record StatementExamples : Type 0 where
   -- what is lent before
   pub lent : map lentBefore widest
       ≡ (255 ∷ 0 ∷ []) ∷ [] ∷ [] ∷ (65_535 ∷ 0 ∷ []) ∷ (18_446_744_073_709_551_615 ∷ 0 ∷ []) ∷ [] ∷ (255 ∷ 0 ∷ []) ∷ []
-  -- the answers of check and write are more than a number
-  pub number-alone : map numberAlone widest ≡ true ∷ true ∷ true ∷ true ∷ true ∷ false ∷ false ∷ []
-  -- accepted
-  pub is-accepted : allOf isAccepted accepting ≡ true
-  pub is-refused : allOf (λ o. not (isAccepted o)) refusing ≡ true
+  -- the number and the values of each answer; accepted
+  pub replies : map withReply (accepting ++ refusing)
+      ≡ told 0 [] [] ∷ told 0 (1 ∷ []) [] ∷ told 0 [] [] ∷ told 0 (19 ∷ []) [] ∷ told 1 [] [] ∷ told 21 [] [] ∷ told 22 [] [] ∷ []
+  pub is-accepted : allOf isAccepted (map withReply accepting) ≡ true
+  pub is-refused : allOf (λ o. not (isAccepted o)) (map withReply refusing) ≡ true
+  -- the outcome of each call: accepted, its values and what is lent; turned down, its number and what is lent as it was
+  pub outcomes-accepted : map (outcomeOf (standsIn (some secondWind))) accepted
+      ≡ told 0 [] (plain 3)
+      ∷ told 0 [] []
+      ∷ told 0 [] []
+      ∷ told 0 [] (1000 ∷ [])
+      ∷ told 0 [] (rowsOf (plainTower (itemOf 7 0 300 ∷ [])) secondWind ++ (9 ∷ []))
+      ∷ told 0 [] []
+      ∷ told 0 (32 ∷ []) (fileWithItem ++ (9 ∷ 9 ∷ []))
+      ∷ []
+  pub outcomes-refused : map (outcomeOf (standsIn none)) turnedDown
+      ≡ told 3 [] (5 ∷ [])
+      ∷ told 10 [] []
+      ∷ told 14 [] []
+      ∷ told 15 [] (1000 ∷ [])
+      ∷ told 21 [] (replicate 7 9)
+      ∷ told 21 [] []
+      ∷ told 22 [] (replicate 31 9)
+      ∷ []
+  -- check answers the topmost section over its allowance
+  pub section-over : outcomeOf (standing (threeAllowing 0 14_065 21_098) (some threePressed)) check ≡ told 0 (1 ∷ []) []
   -- the slice of the last call, of several
-  pub last-lent : lastLent (told (1 ∷ []) (answered answer.Accepted) ∷ told (2 ∷ []) (answered answer.Accepted) ∷ []) ≡ 2 ∷ []
+  pub last-lent : lastLent (told 0 [] (1 ∷ []) ∷ told 0 [] (2 ∷ []) ∷ []) ≡ 2 ∷ []
   pub lent-last : lentLast no-tower (erectFour ++ (write (replicate 21 9) ∷ [])) ≡ plain 4 ++ (9 ∷ 9 ∷ [])
   -- the first refusal of a list, whatever comes behind it
   pub first-refusal : firstRefusal no-tower (erectFour ++ (steady ∷ report [] ∷ takeDown 7 ∷ [])) ≡ 22

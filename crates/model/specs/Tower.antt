@@ -9,7 +9,6 @@ use Rattle.model.specs.declared.Group.{Group}
 use Rattle.model.specs.declared.Item.{Item}
 use Rattle.model.specs.declared.Section as stored-section
 use Rattle.model.specs.declared.Tower as stored-tower
-use Rattle.model.specs.declared.Wind as stored-wind
 
 -- mean width b, height h, shear allowance, groups
 pub record Section : Type 0 where
@@ -31,7 +30,7 @@ pub record Wind : Type 0 where
   pub factor : ℕ
   pub pressures : List ℕ
 
--- the section, tower and wind that a program's value stands for: of its arrays the elements below the counts
+-- the section and the tower that a program's value stands for: of its arrays the elements below the counts
 abbrev pub sectionOf : stored-section.Section → Section
 sectionOf s =
     record {
@@ -47,14 +46,4 @@ towerOf t =
       legs = t .legs;
       sections = map sectionOf (take (t .count) (t .sections));
       items = take (t .held) (t .items);
-    }
-
--- for a tower of n sections
-abbrev pub windOf : ℕ → stored-wind.Wind → Wind
-windOf n w =
-    record {
-      direction = w .direction;
-      ice = w .ice;
-      factor = w .factor;
-      pressures = take n (w .pressures);
     }

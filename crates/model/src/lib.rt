@@ -60,14 +60,6 @@ pub struct Tower {
     pub items: [Item; 64],
 }
 
-// A wind: direction k, ice class, structure factor in thousandths, and a pressure for each section in N/m², top first.
-pub struct Wind {
-    pub direction: u32,
-    pub ice: u32,
-    pub factor: u32,
-    pub pressures: [u16; 32],
-}
-
 // The flow class of a member under a pressure.
 pub enum Flow {
     Flat,

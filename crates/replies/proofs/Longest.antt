@@ -1,4 +1,4 @@
--- The text of a reply has at most 8192 bytes.
+-- The text of a message has at most 8192 bytes.
 use Prim.Native.Nat.{ℕ, zero, suc, _+_, _*_, _^_, _≤_, _<_}
 use mathlib.Core.List.{List, [], _∷_}
 use native.Mathlib.Omega.{arith}
@@ -11,24 +11,24 @@ use Rattle.lines.specs.Text.{decimal}
 use Rattle.lines.proofs.Decimals.{decimal-short}
 use Rattle.lines.proofs.Hexes.{hex-length}
 use Rattle.replies.specs.Help.{helpText}
-use Rattle.replies.specs.ReplyText.{faultText, rowText, rowsText, replyText}
+use Rattle.replies.specs.MessageText.{faultText, rowText, rowsText, messageText}
 use Rattle.replies.specs.declared.Fault.{Fault}
 use Rattle.replies.specs.declared.Fault.the-variants as fault
-use Rattle.replies.specs.declared.Reply.{Reply}
-use Rattle.replies.specs.declared.Reply.the-variants as reply
+use Rattle.replies.specs.declared.Message.{Message}
+use Rattle.replies.specs.declared.Message.the-variants as message
 
 -- at most 32 rows, the most a tower has sections, and a file of at most 3000 bytes
-abbrev pub Moderate : Reply → Type 0
-Moderate reply.Done = Unit {0}
-Moderate (reply.Refused e) = Unit {0}
-Moderate (reply.Rows n) = n ≤ 32
-Moderate (reply.Over i) = i < 2 ^ 64
-Moderate reply.NoneOver = Unit {0}
-Moderate (reply.File n) = n ≤ 3000
-Moderate reply.Help = Unit {0}
-Moderate (reply.Wrong f) = Unit {0}
+abbrev pub Moderate : Message → Type 0
+Moderate message.Done = Unit {0}
+Moderate (message.Refused e) = Unit {0}
+Moderate (message.Rows n) = n ≤ 32
+Moderate (message.Over i) = i < 2 ^ 64
+Moderate message.NoneOver = Unit {0}
+Moderate (message.File n) = n ≤ 3000
+Moderate message.Help = Unit {0}
+Moderate (message.Wrong f) = Unit {0}
 
-pub largest-moderate : Moderate (reply.Rows 32) × Moderate (reply.Over 31) × Moderate (reply.File 3000)
+pub largest-moderate : Moderate (message.Rows 32) × Moderate (message.Over 31) × Moderate (message.File 3000)
 largest-moderate = (lit≤ tt, lit< tt, lit≤ tt)
 
 word-short : (n : ℕ) → n < 2 ^ 64 → length (decimal n) ≤ 20
@@ -66,20 +66,20 @@ help-short : length helpText ≤ 8192
 unfolding helpText
 help-short = lit≤ tt
 
-pub reply-short : (rows file : List ℕ) (r : Reply) → ((i : ℕ) → getD rows i 0 < 2 ^ 64) → Moderate r → length (replyText rows file r) ≤ 8192
-unfolding replyText
-reply-short rows file reply.Done h g = lit≤ tt
-reply-short rows file (reply.Refused e) h g =
+pub message-short : (rows file : List ℕ) (r : Message) → ((i : ℕ) → getD rows i 0 < 2 ^ 64) → Moderate r → length (messageText rows file r) ≤ 8192
+unfolding messageText
+message-short rows file message.Done h g = lit≤ tt
+message-short rows file (message.Refused e) h g =
     let d : length (decimal (refusalNumber e)) ≤ 20 = word-short _ (omega (arith, refusal-highest e)) in
     simp length-append (omega arith)
-reply-short rows file (reply.Rows n) h g =
+message-short rows file (message.Rows n) h g =
     let d : length (decimal n) ≤ 20 = word-short n (omega arith) in
     simp length-append (omega (arith, rows-short n rows h))
-reply-short rows file (reply.Over i) h g =
+message-short rows file (message.Over i) h g =
     let d : length (decimal i) ≤ 20 = word-short i g in
     simp length-append (omega arith)
-reply-short rows file reply.NoneOver h g = lit≤ tt
-reply-short rows file (reply.File n) h g =
+message-short rows file message.NoneOver h g = lit≤ tt
+message-short rows file (message.File n) h g =
     simp (length-append, hex-length, length-take) (omega arith)
-reply-short rows file reply.Help h g = help-short
-reply-short rows file (reply.Wrong f) h g = simp length-append (omega (arith, fault-short f))
+message-short rows file message.Help h g = help-short
+message-short rows file (message.Wrong f) h g = simp length-append (omega (arith, fault-short f))

@@ -1,16 +1,16 @@
--- A row that is put number by number, and rows one after the other; a row reads back.
+-- A row that is put number by number, and rows one after the other; the rows alone count, whatever follows them; a row reads back.
 use Prim.Native.Nat.{ℕ, zero, suc, _+_, _-_, _*_, _^_, _≤_, _<_}
 use mathlib.Core.Path.{_≡_, refl}
 use mathlib.Core.List.{List, [], _∷_, _++_, append-assoc, append-nil}
 use native.Mathlib.Omega.{arith}
 use native.Mathlib.Numerals.{add-one}
-use lib.ListN.{length, getD, take, drop, length-append}
-use lib.Seq.{take-suc, take-all, drop-drop}
-use Rattle.lines.specs.Text.{Puts, ascii, decimal, spaced}
+use lib.ListN.{length, getD, take, drop, length-append, length-drop}
+use lib.Seq.{take-suc, take-all, drop-drop, take-append-le, drop-append-le}
+use Rattle.lines.specs.Text.{Puts, decimal, spaced}
 use Rattle.lines.specs.Numbers.{inside, readTo}
 use Rattle.lines.proofs.Putting.{puts-none, puts-both}
 use Rattle.lines.proofs.ReadBack.{read-first, numbers-back}
-use Rattle.replies.specs.ReplyText.{rowText, rowsText}
+use Rattle.replies.specs.MessageText.{rowText, rowsText}
 
 spaced-append : (ns ms : List ℕ) → spaced (ns ++ ms) ≡ spaced ns ++ spaced ms
 unfolding spaced
@@ -47,6 +47,15 @@ rows-suc (suc i) rows =
     let e : 6 * suc i ≡ 6 + 6 * i = omega arith in
     rw (rows-suc i (drop 6 rows), drop-drop, e, append-assoc)
 
+-- numbers behind those of the rows
+pub rows-first : (n : ℕ) (rows more : List ℕ) → 6 * n ≤ length rows → rowsText n (rows ++ more) ≡ rowsText n rows
+unfolding rowsText
+rows-first zero rows more h = refl
+rows-first (suc n) rows more h =
+    let six : 6 ≤ length rows = omega arith in
+    let left : 6 * n ≤ length (drop 6 rows) = omega (arith, length-drop 6 rows) in
+    rw (take-append-le 6 rows more six, drop-append-le 6 rows more six, rows-first n (drop 6 rows) more left)
+
 module _ (rows before : List ℕ) (at : ℕ) where
   pub rows-none : at ≤ length before → Puts (rowsText 0 rows) before at before at
   unfolding rowsText
@@ -55,11 +64,6 @@ module _ (rows before : List ℕ) (at : ℕ) where
   pub rows-more : {after last : List ℕ} {p r : ℕ} (i : ℕ) → Puts (rowsText i rows) before at after p
       → Puts (rowText (take 6 (drop (6 * i) rows))) after p last r → Puts (rowsText (i + 1) rows) before at last r
   rows-more i a b = rw (add-one i, rows-suc) (puts-both a b)
-
--- how many rows, and then the rows
-pub rows-reply : {before after last : List ℕ} {p r : ℕ} (n : ℕ) (rows : List ℕ) → Puts (ascii "ok " ++ (decimal n ++ ascii "\n")) before 0 after p
-    → Puts (rowsText n rows) after p last r → Puts (ascii "ok " ++ (decimal n ++ (ascii "\n" ++ rowsText n rows))) before 0 last r
-rows-reply n rows a b = simp append-assoc at (puts-both a b)
 
 -- a row, without its line end, reads back
 pub row-back : (room : ℕ) (ns : List ℕ) (n : ℕ) → ((i : ℕ) → getD ns i 0 < 10 ^ 19) → n < 10 ^ 19 → length ns < room

@@ -1,2 +1,2 @@
 pub mod Help
-pub mod ReplyText
+pub mod MessageText

@@ -1,4 +1,4 @@
-// What a request is answered, and its text.
+// What is printed for a line, and its text.
 use model::Refusal;
 
 mod help;
@@ -15,9 +15,9 @@ pub enum Fault {
     LongLine,
 }
 
-// The answer to a request: a call is accepted or turned down; six numbers for each of so many sections; the topmost section over its
+// What is printed: a call is accepted or turned down; six numbers for each of so many sections; the topmost section over its
 // allowance, or that none is; a file of so many bytes; what the requests are; or what is wrong with the line.
-pub enum Reply {
+pub enum Message {
     Done,
     Refused(Refusal),
     Rows(usize),

@@ -1,13 +1,11 @@
-// The text of a reply.
+// The text of a message.
 ghost use Prim.Native.Nat.{_*_, _≤_, _<_};
-ghost use mathlib.Core.List.{_++_};
 ghost use lib.ListN.{length};
 ghost use Rattle.model.specs.Answers.{refusalNumber};
-ghost use Rattle.lines.specs.Text.{Puts, ascii, decimal};
-ghost use Rattle.lines.specs.Hex.{hexText};
-ghost use Rattle.replies.specs.ReplyText.{faultText, rowText, rowsText, replyText, Within};
+ghost use Rattle.lines.specs.Text.{Puts};
+ghost use Rattle.replies.specs.MessageText.{faultText, rowText, rowsText, refusedText, countText, fileText, errorText, messageText, Within};
 use crate::Fault;
-use crate::Reply;
+use crate::Message;
 use crate::help::put_help;
 use lines::hex::put_hex;
 use lines::text::put;
@@ -17,7 +15,7 @@ use model::Refusal;
 use model::numbers::refusal_number;
 
 fn put_error(out: &mut [u8], why: &[u8]) -> usize
-    ensures { λ r. ⌜ Puts (ascii "error " ++ (now (why .entry) ++ ascii "\n")) (now (out .entry)) 0 (now (out .exit)) r ⌝ }
+    ensures { λ r. ⌜ Puts (errorText (now (why .entry))) (now (out .entry)) 0 (now (out .exit)) r ⌝ }
 {
     let at = put_bytes(out, 0, b"error ");
     let at = put_bytes(out, at, why);
@@ -25,7 +23,7 @@ fn put_error(out: &mut [u8], why: &[u8]) -> usize
 }
 
 fn put_fault(out: &mut [u8], f: Fault) -> usize
-    ensures { λ r. ⌜ Puts (ascii "error " ++ (faultText f ++ ascii "\n")) (now (out .entry)) 0 (now (out .exit)) r ⌝ }
+    ensures { λ r. ⌜ Puts (errorText (faultText f)) (now (out .entry)) 0 (now (out .exit)) r ⌝ }
 {
     match f {
         Fault::NoRequest => put_error(out, b"unknown request, try help"),
@@ -39,14 +37,14 @@ fn put_fault(out: &mut [u8], f: Fault) -> usize
 }
 
 fn put_refused(out: &mut [u8], e: Refusal) -> usize
-    ensures { λ r. ⌜ Puts (ascii "refused " ++ (decimal (refusalNumber e) ++ ascii "\n")) (now (out .entry)) 0 (now (out .exit)) r ⌝ }
+    ensures { λ r. ⌜ Puts (refusedText (refusalNumber e)) (now (out .entry)) 0 (now (out .exit)) r ⌝ }
 {
     let at = put_bytes(out, 0, b"refused ");
     put_number(out, at, refusal_number(e) as u64, b'\n')
 }
 
 fn put_count(out: &mut [u8], n: usize) -> usize
-    ensures { λ r. ⌜ Puts (ascii "ok " ++ (decimal n ++ ascii "\n")) (now (out .entry)) 0 (now (out .exit)) r ⌝ }
+    ensures { λ r. ⌜ Puts (countText n) (now (out .entry)) 0 (now (out .exit)) r ⌝ }
 {
     let at = put_bytes(out, 0, b"ok ");
     put_number(out, at, n as u64, b'\n')
@@ -78,29 +76,29 @@ fn put_rows(out: &mut [u8], at: usize, rows: &[u64], count: usize) -> usize
 }
 
 fn put_file(out: &mut [u8], file: &[u8]) -> usize
-    ensures { λ r. ⌜ Puts (ascii "ok " ++ (hexText (now (file .entry)) ++ ascii "\n")) (now (out .entry)) 0 (now (out .exit)) r ⌝ }
+    ensures { λ r. ⌜ Puts (fileText (now (file .entry))) (now (out .entry)) 0 (now (out .exit)) r ⌝ }
 {
     let at = put_bytes(out, 0, b"ok ");
     let at = put_hex(out, at, file);
     put(out, at, b'\n')
 }
 
-// Puts a reply at the start of out, as far as out reaches, and answers its length.
-pub fn put_reply(out: &mut [u8], r: Reply, rows: &[u64], file: &[u8]) -> usize
-    requires { ⌜ Within (now rows) (now file) r ⌝ }
-    ensures { λ n. ⌜ Puts (replyText (now (rows .entry)) (now (file .entry)) r) (now (out .entry)) 0 (now (out .exit)) n ⌝ }
+// Puts a message at the start of out, as far as out reaches, and answers its length.
+pub fn put_message(out: &mut [u8], m: Message, rows: &[u64], file: &[u8]) -> usize
+    requires { ⌜ Within (now rows) (now file) m ⌝ }
+    ensures { λ n. ⌜ Puts (messageText (now (rows .entry)) (now (file .entry)) m) (now (out .entry)) 0 (now (out .exit)) n ⌝ }
 {
-    match r {
-        Reply::Done => put_bytes(out, 0, b"ok\n"),
-        Reply::Refused(e) => put_refused(out, e),
-        Reply::Rows(n) => {
+    match m {
+        Message::Done => put_bytes(out, 0, b"ok\n"),
+        Message::Refused(e) => put_refused(out, e),
+        Message::Rows(n) => {
             let at = put_count(out, n);
             put_rows(out, at, rows, n)
         }
-        Reply::Over(i) => put_count(out, i),
-        Reply::NoneOver => put_bytes(out, 0, b"ok none\n"),
-        Reply::File(n) => put_file(out, &file[..n]),
-        Reply::Help => put_help(out),
-        Reply::Wrong(f) => put_fault(out, f),
+        Message::Over(i) => put_count(out, i),
+        Message::NoneOver => put_bytes(out, 0, b"ok none\n"),
+        Message::File(n) => put_file(out, &file[..n]),
+        Message::Help => put_help(out),
+        Message::Wrong(f) => put_fault(out, f),
     }
 }

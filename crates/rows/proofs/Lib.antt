@@ -1,3 +1,2 @@
-pub mod Stored
-pub mod LoadOn
+pub mod SectionLoads
 pub mod Steps

@@ -1,23 +1,23 @@
 -- The steps of the loops over the sections, over plain values.
 use Prim.Native.Nat.{ℕ, _+_, _-_, _*_, _≤_, _<_}
 use mathlib.Core.Path.{_≡_, refl, ap, sym, _∙_}
-use mathlib.Core.Bool.{false}
+use mathlib.Core.Bool.{true, false}
 use mathlib.Core.List.{List, [], _∷_, _++_, append-assoc}
 use native.Mathlib.Omega.{arith}
 use lib.ListN.{length, take, drop, set, length-append, length-drop, length-take}
 use lib.Seq.{take-at, drop-at, drop-drop}
 use borrow.Rule.Slice.PartMut.{putMid, post-is}
 use Rattle.units.specs.declared.Force.{Force}
-use Rattle.units.specs.declared.Length.{Length}
 use Rattle.model.specs.Tower.{Tower, Wind}
 use Rattle.model.specs.Force.{largestForce}
-use Rattle.model.specs.Report.{sectionAt, heightAt, areasAt, forceAt, row, rowAt, rowsTo, shearAt, momentAt, exceeds, IsOver}
+use Rattle.model.specs.Report.{heightAt, forceAt, row, rowAt, rowsTo, shearAt, momentAt, exceeds, isOver, IsOver, topmostOver}
 use Rattle.model.proofs.Moments.{shear-none, shear-more, moment-none, moment-more}
 use Rattle.model.proofs.Rows.{rows-more, length-rows}
+use Rattle.model.proofs.Topmost.{topmost-is, topmost-none}
 use Rattle.model.proofs.Says.{none-more}
-use Rattle.force.specs.declared.Load.{Load}
 use Rattle.rows.specs.declared.Foot.{Foot}
-use Rattle.rows.specs.Loaded.{NextFoot, rowOf}
+use Rattle.rows.specs.declared.SectionLoad.{SectionLoad}
+use Rattle.rows.specs.Loaded.{LoadAt, NextFoot, rowOf}
 
 -- six stores into a slice of six
 pub six : (l : List ℕ) (a b c d e f : ℕ) → length l ≡ 6 → set (set (set (set (set (set l 0 a) 1 b) 2 c) 3 d) 4 e) 5 f ≡ a ∷ b ∷ c ∷ d ∷ e ∷ f ∷ []
@@ -84,37 +84,47 @@ module _ {t : Tower} {w : Wind} {i : ℕ} where
   written-long {lent} s h =
       ap length (s .rows) ∙ omega (arith, length-append (rowsTo t w i) (drop (6 * i) lent), length-rows t w i, length-drop (6 * i) lent)
 
-  -- section i with its load and its height, below the rows so far
-  module _ {lent out : List ℕ} {above foot : Foot} {load : Load} {h : Length} (s : Written t w lent i out above)
-      (ea : load .areas ≡ areasAt t w i) (ef : load .force ≡ forceAt t w i) (eh : h ≡ heightAt t i) (n : NextFoot above (load .force) h foot) where
+  -- section i, below the rows so far
+  module _ {lent out : List ℕ} {above foot : Foot} {own : SectionLoad} (s : Written t w lent i out above) (a : LoadAt t w i own)
+      (n : NextFoot above (own .load .force) (own .height) foot) where
     next-shear : foot .shear .0 ≡ shearAt t w (i + 1) .0
-    next-shear = n .shear ∙ shear-next t w i (s .shear) ef
+    next-shear = n .shear ∙ shear-next t w i (s .shear) (a .force)
 
     next-moment : foot .moment .0 ≡ momentAt t w (i + 1) .0
-    next-moment = n .moment ∙ rw (s .moment, s .shear, ef, eh) (sym (moment-more (forceAt t w) (heightAt t) i))
+    next-moment = n .moment ∙ rw (s .moment, s .shear, a .force, a .height) (sym (moment-more (forceAt t w) (heightAt t) i))
 
-    row-is : rowOf load foot ≡ rowAt t w i
+    row-is : rowOf (own .load) foot ≡ rowAt t w i
     unfolding row
-    row-is = rw (ea, ef, next-shear, next-moment)
+    row-is = rw (a .areas, a .force, next-shear, next-moment)
 
-    pub written-next : (part : List ℕ) → load .force .0 ≤ largestForce → part ≡ rowOf load foot
+    pub written-next : (part : List ℕ) → part ≡ rowOf (own .load) foot
         → Written t w lent (i + 1) (putMid (6 * i) (6 * i + 6 - 6 * i) out part) foot
-    written-next part b e =
+    written-next part e =
         record {
           shear = next-shear;
           moment = next-moment;
           rows = row-put t w i lent out part (s .rows) (e ∙ row-is);
-          shear-small = omega (arith, n .shear, s .shear-small);
+          shear-small = omega (arith, n .shear, s .shear-small, a .small);
           moment-small = omega (arith, n .small, s .moment-small);
         }
 
-  -- section i with its force and its allowance: is it over?
-  pub exceeds-is : {above f a : Force} → Checked t w i above → f ≡ forceAt t w i → a ≡ sectionAt t i .allowance
-      → exceeds (record { 0 = above .0 + f .0 }) a ≡ exceeds (shearAt t w (i + 1)) (sectionAt t i .allowance)
-  exceeds-is {a = a} s ef ea =
-      ap (λ (n : ℕ). exceeds (record { 0 = n }) a) (shear-next t w i (s .shear) ef) ∙ ap (exceeds (shearAt t w (i + 1))) ea
+  -- is section i over?
+  module _ {above : Force} {own : SectionLoad} (s : Checked t w i above) (a : LoadAt t w i own) where
+    pub exceeds-is : exceeds (record { 0 = above .0 + own .load .force .0 }) (own .allowance) ≡ isOver t w i
+    exceeds-is =
+        ap (λ (n : ℕ). exceeds (record { 0 = n }) (own .allowance)) (shear-next t w i (s .shear) (a .force))
+        ∙ ap (exceeds (shearAt t w (i + 1))) (a .allowance)
 
-  pub checked-next : {above f : Force} → Checked t w i above → f ≡ forceAt t w i → f .0 ≤ largestForce
-      → exceeds (shearAt t w (i + 1)) (sectionAt t i .allowance) ≡ false → Checked t w (i + 1) (record { 0 = above .0 + f .0 })
-  checked-next s ef b g =
-      record { shear = shear-next t w i (s .shear) ef; small = omega (arith, s .small); none = none-more i (s .none) g }
+    pub checked-next : isOver t w i ≡ false → Checked t w (i + 1) (record { 0 = above .0 + own .load .force .0 })
+    checked-next g =
+        record {
+          shear = shear-next t w i (s .shear) (a .force);
+          small = omega (arith, s .small, a .small);
+          none = none-more i (s .none) g;
+        }
+
+  pub over-found : {v : Force} → Checked t w i v → i < length (t .sections) → isOver t w i ≡ true → i ∷ [] ≡ topmostOver t w
+  over-found s h e = sym (topmost-is (record { is-over = record { section = h; over = e }; none-above = s .none }))
+
+  pub none-found : {v : Force} → Checked t w i v → length (t .sections) ≤ i → [] ≡ topmostOver t w
+  none-found s h = sym (topmost-none (λ j o. s .none j (omega (arith, o .section)) o))

@@ -1,28 +1,37 @@
 -- The load on one section, the foot below it, and its row.
 use Prim.Native.Nat.{ℕ, _+_, _*_, _/_, _≤_}
 use mathlib.Core.Path.{_≡_}
+use mathlib.Core.Bool.{true}
 use mathlib.Core.List.{List, [], _∷_}
-use lib.ListN.{getD}
 use Rattle.units.specs.declared.Force.{Force}
 use Rattle.units.specs.declared.Length.{Length}
-use Rattle.exact.specs.Number.{Least}
-use Rattle.model.specs.declared.Legs.{Legs}
-use Rattle.model.specs.declared.Section.{Section}
-use Rattle.model.specs.declared.Wind.{Wind}
-use Rattle.model.specs.Tower.{sectionOf}
-use Rattle.model.specs.Areas.{thickness, areasOf}
-use Rattle.model.specs.Force.{exactForce, largestForce}
+use Rattle.model.specs.Tower.{Tower, Wind}
+use Rattle.model.specs.Areas.{thickness}
+use Rattle.model.specs.File.{legsOf}
+use Rattle.model.specs.Force.{largestForce}
+use Rattle.model.specs.Report.{sectionAt, heightAt, areasAt, forceAt}
 use Rattle.force.specs.declared.Load.{Load}
+use Rattle.slots.specs.Held.{Slots, cell, groundOf, isWindy}
 use Rattle.rows.specs.declared.Foot.{Foot}
+use Rattle.rows.specs.declared.LoadCase.{LoadCase}
+use Rattle.rows.specs.declared.SectionLoad.{SectionLoad}
 
--- document 01's areas, and the least whole number of newtons not below its exact force with this sum of the items
-pub record LoadOn (legs : Legs) (w : Wind) (s : Section) (i items : ℕ) (r : Load) : Type 0 where
-  pub areas : r .areas ≡ areasOf (thickness (w .ice)) (getD (w .pressures) i 0) (sectionOf s .groups)
-  pub force :
-      Least
-      (exactForce legs (w .direction) (thickness (w .ice)) (w .factor) (sectionOf s) (getD (w .pressures) i 0) items)
-      (r .force .0)
-  pub small : r .force .0 ≤ largestForce
+-- the numbers are those of the wind that stands in the slots
+pub record CaseOf (l : Slots) (c : LoadCase) : Type 0 where
+  pub windy : isWindy (groundOf l) ≡ true
+  pub legs : c .legs ≡ legsOf (cell l 0 1)
+  pub direction : c .direction ≡ cell l 0 5
+  pub ice : c .ice ≡ thickness (cell l 0 6)
+  pub factor : c .factor ≡ cell l 0 7
+
+-- the areas and the reported force of section i, and what else the report and the check take from it
+pub record LoadAt (t : Tower) (w : Wind) (i : ℕ) (r : SectionLoad) : Type 0 where
+  pub areas : r .load .areas ≡ areasAt t w i
+  pub force : r .load .force ≡ forceAt t w i
+  pub small : r .load .force .0 ≤ largestForce
+  pub height : r .height ≡ heightAt t i
+  pub tall : r .height .0 ≤ 10_000
+  pub allowance : r .allowance ≡ sectionAt t i .allowance
 
 -- the foot of a section of this height, under this force at its mid-height, below a foot
 pub record NextFoot (above : Foot) (force : Force) (height : Length) (r : Foot) : Type 0 where

@@ -2,24 +2,22 @@
 ghost use mathlib.Core.Path.{_≡_};
 ghost use mathlib.Core.Bool.{true};
 ghost use mathlib.Core.List.{_++_};
-ghost use mathlib.Core.Option.{some};
 ghost use Prim.Native.Nat.{_*_, _≤_};
 ghost use lib.ListN.{length, drop};
-ghost use Rattle.model.specs.Tower.{towerOf, windOf};
-ghost use Rattle.model.specs.Areas as areas;
+ghost use Rattle.model.specs.Answers.{accepts, checkReply};
 ghost use Rattle.model.specs.Report as report;
-ghost use Rattle.model.specs.Machine.{standing, CheckSays};
-ghost use Rattle.rows.specs.Fits.{towerFits, windFits};
+ghost use Rattle.slots.specs.Held.{groundOf, isWindy, countIn, towerIn, windIn};
 ghost use Rattle.rows.specs.Loaded.{rowOf};
 use crate::Foot;
 use crate::feet::next_foot;
 use crate::loads::load_at;
-use areas::items::item_sums;
-use areas::section::thickness;
+use crate::loads::load_case;
 use force::Load;
 use model::CheckAnswer;
-use model::Tower;
-use model::Wind;
+use slots::Slot;
+use slots::head::count_in;
+use slots::head::held_in;
+use slots::items::item_sums;
 use units::Force;
 use units::Moment;
 
@@ -36,26 +34,25 @@ fn write_row(part: &mut [u64], load: Load, foot: Foot)
     part[5] = foot.moment.0;
 }
 
-// The rows at the start of out, top first; the rest of out stays.
-pub fn write_rows(t: Tower, w: Wind, out: &mut [u64])
-    requires { ⌜ (towerFits (areas.thickness (w .ice)) t ≡ true) × (windFits (t .count) w ≡ true) × (6 * t .count ≤ length (now out)) ⌝ }
+// The rows of a tower under a wind at the start of out, top first; the rest of out stays.
+pub fn write_rows(s: &[Slot], out: &mut [u64])
+    requires { ⌜ (length (now s) ≡ 129) × (isWindy (groundOf (now s)) ≡ true) × (6 * countIn (now s) ≤ length (now out)) ⌝ }
     ensures { λ r.
         ⌜ now (out .exit)
-        ≡ report.rowsOf (towerOf t) (windOf (t .count) w) ++ drop (6 * length (towerOf t .sections)) (now (out .entry)) ⌝ }
+        ≡ report.rowsOf (towerIn (now (s .entry))) (windIn (now (s .entry))) ++ drop (6 * countIn (now (s .entry))) (now (out .entry)) ⌝ }
 {
-    let legs = t.legs;
-    let count = t.count;
-    let items = t.items;
-    let ice = thickness(w.ice);
-    let sums = item_sums(ice, items, t.held);
+    let case = load_case(s);
+    let count = count_in(s);
+    let held = held_in(s);
+    let sums = item_sums(s, case.ice, held);
     let mut foot = Foot {
         shear: Force(0),
         moment: Moment(0),
     };
     for i in 0usize..count {
-        let s = t.sections[i];
-        let load = load_at(legs, w, s, i, sums[i]);
-        foot = next_foot(foot, load.force, s.height);
+        let own = load_at(s, case, i, sums[i]);
+        let load = own.load;
+        foot = next_foot(foot, load.force, own.height);
         let start = 6 * i;
         let end = start + 6;
         write_row(&mut out[start..end], load, foot);
@@ -73,20 +70,19 @@ fn exceeds(shear: Force, allowance: Force) -> bool
 }
 
 // The topmost section whose reported shear is above its allowance, or that none is.
-pub fn section_over(t: Tower, w: Wind) -> CheckAnswer
-    requires { ⌜ (towerFits (areas.thickness (w .ice)) t ≡ true) × (windFits (t .count) w ≡ true) ⌝ }
-    ensures { λ r. ⌜ CheckSays (standing (towerOf t) (some (windOf (t .count) w))) r ⌝ }
+pub fn section_over(s: &[Slot]) -> CheckAnswer
+    requires { ⌜ (length (now s) ≡ 129) × (isWindy (groundOf (now s)) ≡ true) ⌝ }
+    ensures { λ r. ⌜ checkReply r ≡ accepts (report.topmostOver (towerIn (now (s .entry))) (windIn (now (s .entry)))) ⌝ }
 {
-    let legs = t.legs;
-    let count = t.count;
-    let items = t.items;
-    let sums = item_sums(thickness(w.ice), items, t.held);
+    let case = load_case(s);
+    let count = count_in(s);
+    let held = held_in(s);
+    let sums = item_sums(s, case.ice, held);
     let mut shear = Force(0);
     for i in 0usize..count {
-        let s = t.sections[i];
-        let own = load_at(legs, w, s, i, sums[i]).force;
-        shear = Force(shear.0 + own.0);
-        if exceeds(shear, s.allowance) {
+        let section = load_at(s, case, i, sums[i]);
+        shear = Force(shear.0 + section.load.force.0);
+        if exceeds(shear, section.allowance) {
             return CheckAnswer::Over(i);
         }
     }

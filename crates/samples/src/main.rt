@@ -8,34 +8,34 @@ use handler::TEXT;
 use handler::respond::respond;
 use libc::STDIN_FILENO;
 use libc::STDOUT_FILENO;
-use service::State;
+use service::changes::fresh;
+use slots::EMPTY;
+use slots::State;
 
 fn print_title(line: &[u8]) {
     io::write_all(STDOUT_FILENO, line);
     io::write_all(STDOUT_FILENO, b"\n");
 }
 
-// A request and its answer; the state after it.
+// A request and its answer.
 fn answer(
-    s: State,
+    s: &mut State,
     line: &[u8],
     numbers: &mut [u64],
     rows: &mut [u64],
     file: &mut [u8],
     out: &mut [u8],
-) -> State {
-    let next = respond(s, line, numbers, rows, file, out);
-    let n = next.length;
-    let state = next.state;
+) {
+    let n = respond(s, line, numbers, rows, file, out);
     io::write_all(STDOUT_FILENO, b"> ");
     io::write_all(STDOUT_FILENO, line);
     io::write_all(STDOUT_FILENO, b"\n");
     io::write_all(STDOUT_FILENO, &out[0..n]);
-    state
 }
 
 fn answer_all(text: &[u8], numbers: &mut [u64], rows: &mut [u64], file: &mut [u8], out: &mut [u8]) {
-    let mut state = service::whole::fresh();
+    let mut state = EMPTY;
+    fresh(&mut state);
     let mut at: usize = 0;
     while at < text.len() {
         let start = at;
@@ -44,7 +44,7 @@ fn answer_all(text: &[u8], numbers: &mut [u64], rows: &mut [u64], file: &mut [u8
         if text[start] == b'#' {
             print_title(&text[start..end]);
         } else {
-            state = answer(state, &text[start..end], numbers, rows, file, out);
+            answer(&mut state, &text[start..end], numbers, rows, file, out);
         }
     }
 }

@@ -1,39 +1,36 @@
--- The customer's first demand, for each call in any state.
-use mathlib.Core.Path.{_≡_, refl, _∙_}
-use Rattle.model.specs.Calls.{Call, refusalOf, step, lentBefore, lentAfter}
+-- The customer's first demand, for each call on any state.
+use Prim.Native.Nat.{ℕ}
+use mathlib.Core.Path.{_≡_, refl, ap, _∙_}
+use mathlib.Core.Bool.{true}
+use Rattle.model.specs.Answers.{Reply}
+use Rattle.model.specs.Calls.{Call, refusalOf, step, replyOf, lentBefore, lentAfter}
+use Rattle.model.specs.Outcomes.{Outcome}
 use Rattle.model.proofs.Refused.{refused-lent}
-use Rattle.service.specs.declared.State as stored
-use Rattle.service.specs.Held.{stateOf}
-use Rattle.model.specs.Outcomes.{replyNumber, Says, Outcome}
-use Rattle.service.proofs.Links.{Link, erected, hung, taken-down, wind-set, reported, checked-for, written-out, link-state, link-lent, link-says, says-number}
+use Rattle.slots.specs.Held.{Slots, cell, stateOf}
+use Rattle.slots.specs.Promises.{leaves}
+use Rattle.service.proofs.Links.{Link, link-meets, number-is}
 
--- a call that is turned down hands back the very state that it was given
-pub link-untouched : {s s′ : stored.State} {c : Call} {o : Outcome} → Link s c o s′ → (refusalOf (stateOf s) c ≡ 0 → ⊥) → s′ ≡ s
-link-untouched (erected κ file t p) h = p .untouched h
-link-untouched (hung t p) h = p .untouched h
-link-untouched (taken-down t p) h = p .untouched h
-link-untouched (wind-set κ ps t₁ t₂ t₃ t₄ p) h = p .untouched h
-link-untouched (reported κ out after t p) h = refl
-link-untouched (checked-for p) h = refl
-link-untouched (written-out κ out after t p) h = refl
-
--- the full answer, or the refusal whose condition is met first; where it is refused, state and lent slice are as they were
-pub record OneCall (s : stored.State) (c : Call) (o : Outcome) (s′ : stored.State) : Type 0 where
-  pub number : replyNumber (o .reply) ≡ refusalOf (stateOf s) c
-  pub says : Says (stateOf s) c (o .reply)
+-- the full answer, or the refusal whose condition is met first; where it is refused, every cell and the lent slice are as they were. And the cells that
+-- the call has nothing to do with stay in any case
+pub record OneCall (s : Slots) (c : Call) (o : Outcome) (s′ : Slots) : Type 0 where
+  pub number : o .reply .number ≡ refusalOf (stateOf s) c
+  pub reply : o .reply ≡ replyOf (stateOf s) c
   pub state : stateOf s′ ≡ step (stateOf s) c
   pub lent : o .lent ≡ lentAfter (stateOf s) c
-  pub untouched : (replyNumber (o .reply) ≡ 0 → ⊥) → (s′ ≡ s) × (o .lent ≡ lentBefore c)
+  pub untouched : (o .reply .number ≡ 0 → ⊥) → (s′ ≡ s) × (o .lent ≡ lentBefore c)
+  pub left : (i j : ℕ) → leaves c i j ≡ true → cell s′ i j ≡ cell s i j
 
-pub demand-1 : {s s′ : stored.State} {c : Call} {o : Outcome} → Link s c o s′ → OneCall s c o s′
+pub demand-1 : {s s′ : Slots} {c : Call} {o : Outcome} → Link s c o s′ → OneCall s c o s′
 demand-1 {s = s} {c = c} l =
-    let n : _ = says-number (link-says l) in
+    let m : _ = link-meets l in
+    let n : _ = number-is l (stateOf s) refl in
     record {
       number = n;
-      says = link-says l;
-      state = link-state l;
-      lent = link-lent l;
+      reply = m .reply;
+      state = m .state;
+      lent = m .lent;
       untouched = λ h.
           let k : refusalOf (stateOf s) c ≡ 0 → ⊥ = λ (z : refusalOf (stateOf s) c ≡ 0). h (n ∙ z) in
-          (link-untouched l k, link-lent l ∙ refused-lent (stateOf s) c k);
+          (m .untouched k, m .lent ∙ refused-lent (stateOf s) c k);
+      left = m .left;
     }

@@ -15,8 +15,8 @@ use Rattle.model.specs.declared.Item.{Item}
 use Rattle.model.specs.Lists.{allOf}
 use Rattle.model.specs.Tower.{Tower, Wind}
 use Rattle.model.specs.Report.{exactAt, forceAt, shearAt, momentAt, rowAt, rowsOf, shearTerms, momentTerms, armsTo}
-use Rattle.model.specs.Machine.{State, no-tower, standing, reportOut, reportRefusal}
-use Rattle.model.specs.Calls.{Call, report, refusalOf, step, lentBefore, lentAfter, run, newlyErected}
+use Rattle.model.specs.Machine.{State, no-tower, standing, reportRefusal}
+use Rattle.model.specs.Calls.{Call, report, refusalOf, step, replyOf, lentBefore, lentAfter, run, newlyErected}
 use Rattle.model.specs.Valid.{ValidWind, ValidState, none-standing, windy}
 use Rattle.model.proofs.Forces.{refuse-none, force-within}
 use Rattle.model.proofs.Moments.{shear-excess, moment-excess}
@@ -24,10 +24,24 @@ use Rattle.model.proofs.Rows.{columns, length-rows, row-at, report-rows}
 use Rattle.model.proofs.Reached.{step-valid}
 use Rattle.model.proofs.NewlyErected.{newly-accepted, newly-rows}
 use Rattle.model.proofs.Refused.{refused-state, refused-lent}
-use Rattle.service.specs.declared.State as stored
-use Rattle.service.specs.Held.{stateOf}
-use Rattle.model.specs.Outcomes.{replyNumber, Says, Outcome, isAccepted, lastLent}
-use Rattle.service.proofs.Links.{IsFresh, Link, Chain, none, more, link-typed, link-state, link-lent, link-says, says-number, chain-state, chain-accepted, chain-lent}
+use Rattle.model.specs.Outcomes.{Outcome, isAccepted, lastLent}
+use Rattle.slots.specs.Held.{Slots, stateOf}
+use Rattle.service.proofs.Links.{
+  IsFresh,
+  fresh-state,
+  Link,
+  Chain,
+  none,
+  more,
+  link-typed,
+  next-is,
+  reply-is,
+  number-is,
+  lent-is,
+  chain-state,
+  chain-accepted,
+  chain-lent,
+}
 
 -- the excess of every reported force is never negative and below so many newtons; that of every reported shear below them times the sections down to the foot,
 -- and that of every reported moment below them times the sum of the arms
@@ -40,7 +54,7 @@ pub record Excess (newtons : ℕ) (t : Tower) (w : Wind) (rows : List ℕ) : Typ
 -- the report into a slice of the same length has the same numbers
 pub record SameNewly (t : Tower) (w : Wind) (room : ℕ) (rows : List ℕ) : Type 0 where
   pub each-order : (items : List Item) → List·Permᴰ (t .items) items → (lent : List ℕ) → length lent ≡ room
-      → {f s : stored.State} {os : List Outcome} → IsFresh f → Chain f (newlyErected t items w lent) os s
+      → {f s : Slots} {os : List Outcome} → IsFresh f → Chain f (newlyErected t items w lent) os s
       → (allOf isAccepted os ≡ true) × (take (6 * length (t .sections)) (lastLent os) ≡ take (6 * length (t .sections)) rows)
 
 -- an accepted report: it is that of a valid tower under a wind that it takes, its six numbers a section are document 01's, and the rest of the slice stays
@@ -57,15 +71,15 @@ pub record AcceptedReport (m : State) (before after : List ℕ) : Type 0 where
 -- an entry, beside the machine's state m
 pub record Entry (m : State) (c : Call) (o : Outcome) : Type 0 where
   -- the answer has the number of the first refusal whose condition is met, or 0; so it is accepted exactly if none is
-  pub number : replyNumber (o .reply) ≡ refusalOf m c
-  -- what check and write answer beside it
-  pub says : Says m c (o .reply)
+  pub number : o .reply .number ≡ refusalOf m c
+  -- and the values that check and write answer beside it are the machine's
+  pub reply : o .reply ≡ replyOf m c
   -- every element of the lent slice
   pub lent : o .lent ≡ lentAfter m c
   -- a refused call changes nothing
   pub refused : (refusalOf m c ≡ 0 → ⊥) → (step m c ≡ m) × (o .lent ≡ lentBefore c)
   -- a report that is accepted
-  pub accepted-report : (before : List ℕ) → c ≡ report before → replyNumber (o .reply) ≡ 0 → AcceptedReport m before (o .lent)
+  pub accepted-report : (before : List ℕ) → c ≡ report before → o .reply .number ≡ 0 → AcceptedReport m before (o .lent)
 
 -- every entry of a list, the machine being given the same list
 pub data Each : State → List Call → List Outcome → Type 0 where
@@ -114,15 +128,15 @@ module _ (t : Tower) (w : Wind) (before after : List ℕ) (e : after ≡ rowsOf 
       record {
         each-order = λ items p lent long {f} {s} {os} fresh ch.
             let r : 6 * length (t .sections) ≤ length lent = omega arith in (
-              chain-accepted no-tower fresh ch (newly-accepted t w v items p lent r),
+              chain-accepted no-tower (fresh-state fresh) ch (newly-accepted t w v items p lent r),
               ap (take (6 * length (t .sections)))
-                  (chain-lent no-tower fresh ch ∙ newly-rows t w v items p lent r)
+                  (chain-lent no-tower (fresh-state fresh) ch ∙ newly-rows t w v items p lent r)
                   ∙ take-at (rowsOf t w) (drop (6 * length (t .sections)) lent) (6 * length (t .sections)) (length-rows t w (length (t .sections)))
                   ∙ sym rows-in,
             );
       }
 
-report-in : (m : State) (before after : List ℕ) → ValidState m → reportRefusal m (length before) ≡ 0 → after ≡ reportOut m before → AcceptedReport m before after
+report-in : (m : State) (before after : List ℕ) → ValidState m → reportRefusal m (length before) ≡ 0 → after ≡ lentAfter m (report before) → AcceptedReport m before after
 report-in no-tower before after v h e = absurd (omega arith)
 report-in (standing t none) before after v h e = absurd (omega arith)
 report-in (standing t (some w)) before after (windy v) h e =
@@ -140,27 +154,25 @@ report-in (standing t (some w)) before after (windy v) h e =
       newly = same-newly t w before after r v room;
     }
 
-entry : {s s′ : stored.State} {c : Call} {o : Outcome} (m : State) → stateOf s ≡ m → ValidState m → Link s c o s′ → Entry m c o
+entry : {s s′ : Slots} {c : Call} {o : Outcome} (m : State) → stateOf s ≡ m → ValidState m → Link s c o s′ → Entry m c o
 entry {c = c} {o = o} m e v l =
-    let says : Says m c (o .reply) = subst (λ (x : State). Says x c (o .reply)) e (link-says l) in
-    let lent : o .lent ≡ lentAfter m c = link-lent l ∙ ap (λ (x : State). lentAfter x c) e in
+    let number : o .reply .number ≡ refusalOf m c = number-is l m e in
+    let lent : o .lent ≡ lentAfter m c = lent-is l m e in
     record {
-      number = says-number says;
-      says = says;
+      number = number;
+      reply = reply-is l m e;
       lent = lent;
       refused = λ h. (refused-state m c h, lent ∙ refused-lent m c h);
       accepted-report = λ before q a.
-          report-in m before (o .lent) v
-          (subst (λ (x : Call). refusalOf m x ≡ 0) q (sym (says-number says) ∙ a))
-          (lent ∙ ap (lentAfter m) q);
+          report-in m before (o .lent) v (subst (λ (x : Call). refusalOf m x ≡ 0) q (sym number ∙ a)) (lent ∙ ap (lentAfter m) q);
     }
 
-each : {s s′ : stored.State} {cs : List Call} {os : List Outcome} (m : State) → stateOf s ≡ m → ValidState m → Chain s cs os s′ → Each m cs os
+each : {s s′ : Slots} {cs : List Call} {os : List Outcome} (m : State) → stateOf s ≡ m → ValidState m → Chain s cs os s′ → Each m cs os
 each m e v none = none-left
 each m e v (more {c = c} l ch) =
-    entry-then (entry m e v l) (each (step m c) (link-state l ∙ ap (λ (x : State). step x c) e) (step-valid m c (link-typed l) v) ch)
+    entry-then (entry m e v l) (each (step m c) (next-is l m e) (step-valid m c (link-typed l) v) ch)
 
 -- For every list of erect, hang, take-down, wind, report, check and write calls, with any arguments of their types, refused ones included: the list starts from
 -- a fresh service, each call gets the state that the last one left, and document 01's machine is given the same list.
-pub demand-3 : {f s : stored.State} {cs : List Call} {os : List Outcome} → IsFresh f → Chain f cs os s → Each no-tower cs os × (stateOf s ≡ run no-tower cs)
-demand-3 fresh ch = (each no-tower fresh none-standing ch, chain-state no-tower fresh ch)
+pub demand-3 : {f s : Slots} {cs : List Call} {os : List Outcome} → IsFresh f → Chain f cs os s → Each no-tower cs os × (stateOf s ≡ run no-tower cs)
+demand-3 fresh ch = (each no-tower (fresh-state fresh) none-standing ch, chain-state no-tower (fresh-state fresh) ch)

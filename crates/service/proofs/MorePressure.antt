@@ -12,18 +12,18 @@ use Rattle.model.specs.Report.{exactAt, forceAt, shearAt, momentAt}
 use Rattle.model.specs.MorePressure.{greatestAt, NoLower, AboveLess, NoLess}
 use Rattle.model.specs.Machine.{State, no-tower, standing}
 use Rattle.model.specs.Calls.{Call, report, refusalOf, step, run}
-use Rattle.model.specs.Outcomes.{replyNumber, Outcome}
+use Rattle.model.specs.Outcomes.{Outcome}
 use Rattle.model.specs.Valid.{ValidWind}
 use Rattle.model.proofs.Forces.{force-within}
 use Rattle.model.proofs.Growing.{greatest-at, band-force, band-shear, band-moment, force-grows, shear-grows, moment-grows}
-use Rattle.service.specs.declared.State as stored
+use Rattle.slots.specs.Held.{Slots}
 use Rattle.service.proofs.Links.{IsFresh, Chain}
 use Rattle.service.proofs.Demand3.{AcceptedReport, Each, entry-then, force-in, shear-in, moment-in, demand-3}
 
 -- somewhere in a list of calls with these outcomes, the machine being given the same list from this state on, a report is
 -- accepted: of which tower under which wind, and the slice that it leaves
 pub data AcceptedIn : State → List Call → List Outcome → Tower → Wind → List ℕ → Type 0 where
-  this-call : {t : Tower} {w : Wind} {before : List ℕ} {o : Outcome} {cs : List Call} {os : List Outcome} → replyNumber (o .reply) ≡ 0
+  this-call : {t : Tower} {w : Wind} {before : List ℕ} {o : Outcome} {cs : List Call} {os : List Outcome} → o .reply .number ≡ 0
       → AcceptedIn (standing t (some w)) (report before ∷ cs) (o ∷ os) t w (o .lent)
   later-call : {m : State} {t : Tower} {w : Wind} {rows : List ℕ} {c : Call} {o : Outcome} {cs : List Call} {os : List Outcome}
       → AcceptedIn (step m c) cs os t w rows → AcceptedIn m (c ∷ cs) (o ∷ os) t w rows
@@ -36,14 +36,14 @@ pub record Found (m : State) (cs : List Call) (os : List Outcome) (t : Tower) (w
 found-in : {t : Tower} {w : Wind} (m : State) (ds es : List Call) (before : List ℕ) {os : List Outcome} → Each m (ds ++ (report before ∷ es)) os
     → run m ds ≡ standing t (some w) → 6 * length (t .sections) ≤ length before → Found m (ds ++ (report before ∷ es)) os t w
 found-in {t} {w} m [] es before (entry-then {o = o} {os = os} e rest) q room =
-    let accepted : replyNumber (o .reply) ≡ 0 =
+    let accepted : o .reply .number ≡ 0 =
     e .number ∙ ap (λ (x : State). refusalOf x (report before)) q ∙ rw (le-ltb (length before) (6 * length (t .sections)) room) in
     record { rows = o .lent; reported = subst (λ (x : State). AcceptedIn x (report before ∷ es) (o ∷ os) t w (o .lent)) (sym q) (this-call accepted) }
 found-in m (d ∷ ds) es before (entry-then e rest) q room =
     let r : _ = found-in (step m d) ds es before rest q room in
     record { rows = r .rows; reported = later-call (r .reported) }
 
-pub every-report : {f s : stored.State} {t : Tower} {w : Wind} (ds es : List Call) (before : List ℕ) {os : List Outcome}
+pub every-report : {f s : Slots} {t : Tower} {w : Wind} (ds es : List Call) (before : List ℕ) {os : List Outcome}
     → IsFresh f → Chain f (ds ++ (report before ∷ es)) os s → run no-tower ds ≡ standing t (some w) → 6 * length (t .sections) ≤ length before
     → Found no-tower (ds ++ (report before ∷ es)) os t w
 every-report ds es before a ch q room = found-in no-tower ds es before (demand-3 a ch .0) q room
@@ -108,7 +108,7 @@ module _ {t t′ : Tower} {w w′ : Wind} {rows rows′ : List ℕ} (k : Known t
 -- For every two lists of calls, each from a fresh service, and every two reports accepted in them: where no section's pressure
 -- is lower at the second one and all else is the same, its numbers are above the first one's less document 02's bounds, and
 -- none is less.
-pub more-pressure : {f s f′ s′ : stored.State} {cs cs′ : List Call} {os os′ : List Outcome} {t t′ : Tower} {w w′ : Wind} {rows rows′ : List ℕ}
+pub more-pressure : {f s f′ s′ : Slots} {cs cs′ : List Call} {os os′ : List Outcome} {t t′ : Tower} {w w′ : Wind} {rows rows′ : List ℕ}
     → IsFresh f → Chain f cs os s → IsFresh f′ → Chain f′ cs′ os′ s′
     → AcceptedIn no-tower cs os t w rows → AcceptedIn no-tower cs′ os′ t′ w′ rows′ → NoLower t w t′ w′
     → AboveLess 2 t rows rows′ × NoLess t rows rows′
@@ -119,7 +119,7 @@ more-pressure a ch b ch′ r r′ g =
 
 -- And of every accepted report each exact force is the greatest value of document 01's formula at any whole pressure from 0 to
 -- the section's.
-pub report-greatest : {f s : stored.State} {cs : List Call} {os : List Outcome} {t : Tower} {w : Wind} {rows : List ℕ}
+pub report-greatest : {f s : Slots} {cs : List Call} {os : List Outcome} {t : Tower} {w : Wind} {rows : List ℕ}
     → IsFresh f → Chain f cs os s → AcceptedIn no-tower cs os t w rows
     → (i : ℕ) → i < length (t .sections) → Equal (exactAt t w i) (greatestAt t w i)
 report-greatest {t = t} {w = w} a ch r i h = greatest-at t w (known (demand-3 a ch .0) r .valid) i h

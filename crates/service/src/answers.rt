@@ -1,58 +1,30 @@
-// The calls that change nothing in the state: report, check, write.
-ghost use Rattle.service.specs.Promises.{Reports, Writes};
-ghost use Rattle.service.specs.Held.{stateOf};
-ghost use Rattle.model.specs.Machine.{CheckSays};
-use crate::State;
-use crate::whole::is_whole;
+// The calls that ask, and leave the state.
+ghost use mathlib.Core.List.{[]};
+ghost use Rattle.model.specs.Answers.{answerReply, checkReply, writeReply};
+ghost use Rattle.model.specs.Calls as call;
+ghost use Rattle.slots.specs.Promises.{Meets};
 use model::Answer;
 use model::CheckAnswer;
-use model::Refusal;
 use model::WriteAnswer;
-use rows::table::section_over;
-use rows::table::write_rows;
+use slots::State;
 
 // Six numbers per section at the start of out, top first; the rest of out stays.
-pub fn report(s: State, out: &mut [u64]) -> Answer
-    ensures { λ r. ⌜ Reports s (now (out .entry)) (now (out .exit)) r ⌝ }
+pub fn report(s: &State, out: &mut [u64]) -> Answer
+    ensures { λ r. ⌜ Meets (call.report (now (out .entry))) (now (s .entry)) (now (s .entry)) (answerReply r) (now (out .exit)) ⌝ }
 {
-    if !is_whole(s) {
-        return Answer::Refused(Refusal::NoTower);
-    }
-    if !s.windy {
-        return Answer::Refused(Refusal::NoWind);
-    }
-    let tower = s.tower;
-    let wind = s.wind;
-    let filled = 6 * tower.count;
-    if out.len() < filled {
-        return Answer::Refused(Refusal::OutputShort);
-    }
-    write_rows(tower, wind, out);
-    Answer::Accepted
+    answer_calls::answers::report(s, out)
 }
 
 // The topmost section whose reported shear is above its allowance, or that none is.
-pub fn check(s: State) -> CheckAnswer
-    ensures { λ r. ⌜ CheckSays (stateOf s) r ⌝ }
+pub fn check(s: &State) -> CheckAnswer
+    ensures { λ r. ⌜ Meets call.check (now (s .entry)) (now (s .entry)) (checkReply r) [] ⌝ }
 {
-    if !is_whole(s) {
-        return CheckAnswer::Refused(Refusal::NoTower);
-    }
-    if !s.windy {
-        return CheckAnswer::Refused(Refusal::NoWind);
-    }
-    let tower = s.tower;
-    let wind = s.wind;
-    section_over(tower, wind)
+    answer_calls::answers::check(s)
 }
 
 // The tower file at the start of out, and its length; the bytes beyond stay.
-pub fn write(s: State, out: &mut [u8]) -> WriteAnswer
-    ensures { λ r. ⌜ Writes s (now (out .entry)) (now (out .exit)) r ⌝ }
+pub fn write(s: &State, out: &mut [u8]) -> WriteAnswer
+    ensures { λ r. ⌜ Meets (call.write (now (out .entry))) (now (s .entry)) (now (s .entry)) (writeReply r) (now (out .exit)) ⌝ }
 {
-    if !is_whole(s) {
-        return WriteAnswer::Refused(Refusal::NoTower);
-    }
-    let tower = s.tower;
-    tower_file::file::write(tower, out)
+    answer_calls::answers::write(s, out)
 }

@@ -1,12 +1,12 @@
 -- What the answer to a whole file comes to.
-use Prim.Native.Nat.{ℕ, _≤_}
+use Prim.Native.Nat.{ℕ, suc, _^_, _≤_, _<_}
 use mathlib.Core.Path.{_≡_, refl, ap, sym, subst, _∙_}
 use mathlib.Core.Bool.{true, false}
-use mathlib.Core.List.{List, []}
+use mathlib.Core.List.{List, [], _∷_}
 use native.Mathlib.Omega.{arith}
 use lib.Dec.{eqb}
-use lib.ListN.{length, take, drop, length-drop}
-use borrow.Author.Tests.{le-leb, eq-eqb, ne-eqb}
+use lib.ListN.{length, take, drop, getD, length-drop}
+use borrow.Author.Tests.{le-leb, lt-ltb, eq-eqb, ne-eqb}
 use Rattle.exact.proofs.Bools.{and-join}
 use Rattle.model.specs.declared.Answer.the-variants as answer
 use Rattle.model.specs.declared.Refusal.{Refusal}
@@ -16,6 +16,7 @@ use Rattle.model.specs.Lists.{allOf}
 use Rattle.model.specs.Tower.{towerOf}
 use Rattle.model.specs.Reading.{Parsed, got, refused}
 use Rattle.model.specs.File.{readFile}
+use Rattle.model.specs.Calls.{bits}
 use Rattle.tower_file.specs.declared.FileRead.{FileRead}
 use Rattle.file_parts.specs.declared.Part.{Part}
 use Rattle.file_parts.specs.declared.Part.the-variants as part
@@ -23,6 +24,11 @@ use Rattle.file_fields.specs.Outcomes.{Says, Reads, whyBarred}
 use Rattle.file_parts.specs.PartOutcomes.{partOutcome}
 use Rattle.file_parts.specs.Stored.{groupsStored}
 use Rattle.tower_file.specs.Stored.{countsStored, ReadsFile}
+
+-- a slice of bytes
+pub all-bytes : (l : List ℕ) → ((i : ℕ) → getD l i 0 < 256) → allOf (bits 8) l ≡ true
+all-bytes [] h = refl
+all-bytes (x ∷ l) h = and-join (lt-ltb x (2 ^ 8) (h 0)) (all-bytes l (λ i. h (suc i)))
 
 -- the refusal of a part that is handed on
 pub part-handed : {A : Type 0} (a : A) {s : List ℕ} {p : Parsed A} {r : Part} {e : Refusal} → Reads A s p (partOutcome a r) → r ≡ part.Refused e

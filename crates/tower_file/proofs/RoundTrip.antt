@@ -4,6 +4,7 @@ use Prim.Native.Nat.{ℕ, _≤_}
 use mathlib.Core.Path.{_≡_, refl, ap, sym, subst, _∙_}
 use mathlib.Core.Bool.{true, false}
 use mathlib.Core.List.{List, _++_}
+use mathlib.Core.Option.{none}
 use native.Mathlib.Omega.{arith}
 use lib.Dec.{ltb}
 use lib.ListN.{length, take, drop}
@@ -19,7 +20,7 @@ use Rattle.model.specs.Tower.{Tower, towerOf}
 use Rattle.model.specs.Reading.{got}
 use Rattle.model.specs.File.{readFile}
 use Rattle.model.specs.Bytes.{fileOf}
-use Rattle.model.specs.Machine.{filled}
+use Rattle.model.specs.Machine.{standing, filled}
 use Rattle.model.specs.Calls.{bits}
 use Rattle.model.specs.Valid.{ValidTower}
 use Rattle.tower_file.specs.declared.FileRead.{FileRead}
@@ -45,15 +46,15 @@ Wrote κ t out r after = write-reads.Post κ (t, (out, tt)) r (t, (after, tt))
 writes-room : (t : Tower) {d x : List ℕ} {r : WriteAnswer} → WritesFile t d x r → length (fileOf t) ≤ length d
     → (r ≡ write.Written (length (fileOf t))) × (x ≡ fileOf t ++ drop (length (fileOf t)) d)
 unfolding filled
-writes-room t {d} w h =
+writes-room t {d} {r = r} w h =
     let e : ltb (length d) (length (fileOf t)) ≡ false = le-ltb (length d) (length (fileOf t)) h in
-    (write-room (rw e refl) (w .answer), w .bytes ∙ rw e refl)
+    (write-room (standing t none) d r (rw e refl) (sym (w .answer)), w .bytes ∙ rw e refl)
 
 -- and so many bytes are the file
 writes-taken : (t : Tower) {d x : List ℕ} {n : ℕ} → WritesFile t d x (write.Written n) → take n x ≡ fileOf t
 unfolding filled
 writes-taken t {d} {x} {n} w =
-    let k : _ = write-length (w .answer) in
+    let k : _ = write-length (standing t none) d (sym (w .answer)) in
     let f : x ≡ fileOf t ++ drop (length (fileOf t)) d = w .bytes ∙ rw (k .0) refl in
     ap (take n) f ∙ take-at (fileOf t) (drop (length (fileOf t)) d) n (sym (k .1))
 

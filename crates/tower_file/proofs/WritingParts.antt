@@ -1,7 +1,7 @@
 -- The parts of a tower's file, of the tower as a program holds it: of its arrays the elements below the counts.
 use Prim.Native.Nat.{ℕ, _+_, _<_, _≤_}
-use mathlib.Core.Path.{_≡_, ap, _∙_}
-use mathlib.Core.List.{List, _++_, map, append-assoc}
+use mathlib.Core.Path.{_≡_, ap, sym, _∙_}
+use mathlib.Core.List.{List, [], _∷_, _++_, map, append-assoc}
 use mathlib.Core.Option.{none}
 use native.Mathlib.Omega.{arith}
 use lib.ListN.{length, take, length-append, length-map}
@@ -12,8 +12,11 @@ use Rattle.model.specs.declared.WriteAnswer.the-variants as write
 use Rattle.model.specs.Lists.{joined}
 use Rattle.model.specs.Tower.{Tower, sectionOf, towerOf}
 use Rattle.model.specs.Bytes.{bytes, legsNumber, sectionBytes, itemBytes, fileOf}
-use Rattle.model.specs.Machine.{standing, filled, written, turned-down}
+use Rattle.model.specs.Machine.{standing, filled}
+use Rattle.model.specs.Calls as call
+use Rattle.model.specs.Answers.{accepts}
 use Rattle.model.proofs.FileLength.{length-bytes}
+use Rattle.model.proofs.Says.{refused-reply, accepted-reply}
 use Rattle.file_fields.specs.Written.{Puts}
 use Rattle.tower_file.specs.Written.{WritesFile}
 use Rattle.file_fields.proofs.Writing.{take-counted}
@@ -37,10 +40,13 @@ pub writes-none : (t : Tower) (d : List ℕ) → length d < length (fileOf t) �
 unfolding filled
 writes-none t d h =
     let e = lt-ltb (length d) (length (fileOf t)) h in
-    record { answer = turned-down {m = standing t none} {room = length d} {r = OutputShort} (rw e); bytes = rw e }
+    record { answer = sym (refused-reply (standing t none) (call.write d) OutputShort (rw e)); bytes = rw e }
 
 pub writes-all : (t : Tower) {d x : List ℕ} {n : ℕ} → length (fileOf t) ≤ length d → Puts (fileOf t) d x n → WritesFile t d x (write.Written n)
 unfolding filled
 writes-all t {d} h p =
     let e = le-ltb (length d) (length (fileOf t)) h in
-    record { answer = written {m = standing t none} {room = length d} (rw e) (p .count); bytes = rw e (p .bytes) }
+    record {
+      answer = ap (λ (k : ℕ). accepts (k ∷ [])) (p .count) ∙ sym (accepted-reply (standing t none) (call.write d) (rw e));
+      bytes = rw e (p .bytes);
+    }

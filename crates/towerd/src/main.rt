@@ -11,9 +11,11 @@ use handler::TEXT;
 use handler::respond::respond;
 use libc::STDOUT_FILENO;
 use replies::Fault;
-use replies::Reply;
-use replies::text::put_reply;
-use service::State;
+use replies::Message;
+use replies::text::put_message;
+use service::changes::fresh;
+use slots::EMPTY;
+use slots::State;
 
 // The bytes from `at` to `end` of the buffer are read and not answered yet. `cut` says that the start of a line was dropped, since it is
 // too long, `ended` that the input has ended, and `open` that there is more to answer.
@@ -25,36 +27,28 @@ struct Input {
     open: bool,
 }
 
-// The state after a line, and whether more answers can be written.
-struct Answered {
-    state: State,
-    open: bool,
-}
-
 // A line whose start was dropped.
 fn refuse_long(out: &mut [u8]) -> bool {
-    let n = put_reply(out, Reply::Wrong(Fault::LongLine), &[], &[]);
+    let n = put_message(out, Message::Wrong(Fault::LongLine), &[], &[]);
     io::write_all(STDOUT_FILENO, &out[0..n])
 }
 
 // A line, and whether its answer could be written.
 fn answer(
-    s: State,
+    s: &mut State,
     line: &[u8],
     numbers: &mut [u64],
     rows: &mut [u64],
     file: &mut [u8],
     out: &mut [u8],
-) -> Answered {
-    let next = respond(s, line, numbers, rows, file, out);
-    let n = next.length;
-    let state = next.state;
-    let open = io::write_all(STDOUT_FILENO, &out[0..n]);
-    Answered { state, open }
+) -> bool {
+    let n = respond(s, line, numbers, rows, file, out);
+    io::write_all(STDOUT_FILENO, &out[0..n])
 }
 
 fn serve(buf: &mut [u8], numbers: &mut [u64], rows: &mut [u64], file: &mut [u8], out: &mut [u8]) {
-    let mut state = service::whole::fresh();
+    let mut state = EMPTY;
+    fresh(&mut state);
     let mut input = Input {
         at: 0,
         end: 0,
@@ -76,9 +70,7 @@ fn serve(buf: &mut [u8], numbers: &mut [u64], rows: &mut [u64], file: &mut [u8],
             input.open = refuse_long(out);
         } else {
             input.at = stop + 1;
-            let next = answer(state, &buf[at..stop], numbers, rows, file, out);
-            input.open = next.open;
-            state = next.state;
+            input.open = answer(&mut state, &buf[at..stop], numbers, rows, file, out);
         }
     }
 }

@@ -1,6 +1,9 @@
 //! Tests of the timed towers and their calls, with the library linked.
 
-use crate::calls::{mast, timed_calls, timed_towers, with_room, Call, TimedCall, TimedTower};
+use crate::calls::{
+    largest, mast, timed_calls, timed_towers, with_room, Call, TimedCall, TimedTower,
+};
+use crate::copies::{timed_copies, TimedCopy};
 use crate::library::{Calls, Library, Windy};
 use crate::proved::{InRust, Proved, Versions};
 use crate::towers::{self, Rounds};
@@ -122,7 +125,7 @@ fn the_library_leaves_the_numbers_beyond_the_rows_and_all_after_a_refusal() {
 /// Each library and the Rust version accept so many of the calls of these rounds.
 fn accept(timed: &TimedCall, rounds: u64, accepted: u64) {
     let name = timed.name();
-    for library in Calls::all(true) {
+    for library in Calls::all(true).filter(|library| timed.is_in(library)) {
         assert_eq!(timed.library(&library, rounds), accepted, "{name}");
     }
     assert_eq!(timed.rust(rounds), accepted, "{name}");
@@ -142,7 +145,7 @@ fn the_timed_calls_are_all_accepted() {
 #[test]
 fn the_versions_count_the_same_calls_where_some_are_turned_down() {
     let call = Call::Hang;
-    let on = timed_towers().remove(0);
+    let on = largest();
     accept(&TimedCall { call, on }, 10, 0);
     let tower = Tower {
         items: vec![item(3), item(4), item(1_007)],
@@ -162,6 +165,41 @@ fn the_versions_count_the_same_calls_where_some_are_turned_down() {
     for library in Calls::all(true) {
         assert_eq!(library.erect(&windy, 5), 0);
         assert_eq!(library.hang(&windy, 5), 0);
+        assert_eq!(library.first_down(&windy, 5).unwrap_or(0), 0);
+    }
+}
+
+/// Without an item the dish is taken down from the second round on.
+#[test]
+fn the_first_item_is_taken_down_and_hung_again() {
+    let call = Call::FirstDown;
+    for (items, refused) in [(0, 1), (1, 0), (2, 0), (64, 0)] {
+        let tower = towers::tower(Rounds::Thin, 2, items);
+        let wind = towers::wind(&tower);
+        let on = TimedTower::new("some items", tower, wind);
+        let timed = TimedCall { call, on };
+        for rounds in [1, 2, 150] {
+            accept(&timed, rounds, 2 * rounds - refused);
+        }
+    }
+}
+
+#[test]
+fn the_last_copy_reports_the_same() {
+    for timed in timed_copies() {
+        for library in Calls::all(true).filter(|library| timed.is_in(library)) {
+            assert_eq!(timed.difference(&library), None);
+            for rounds in [0, 1, 7] {
+                let mut lent = timed.on.lent();
+                assert_eq!(library.keep(&timed.on.windy(), rounds, &mut lent), Some(1));
+                assert_eq!(lent, timed.on.exact_numbers());
+                assert_eq!(
+                    library.keep(&timed.on.windy(), rounds, &mut [9; 5]),
+                    Some(0)
+                );
+            }
+        }
+        assert_eq!(timed.rust(3), 1);
     }
 }
 
@@ -171,9 +209,13 @@ fn the_calls_have_names_and_two_of_a_round_half_its_time() {
     let named = calls.iter().map(|timed| (timed.name(), timed.number(30.0)));
     let wanted = [
         ("hang, take down: 32 sections, 63 items", 15.0),
+        ("first of 64 items down, hung again", 15.0),
         ("erect: 2915 bytes", 30.0),
         ("hang, take down: 12 sections, 8 items", 15.0),
+        ("first of 8 items down, hung again", 15.0),
         ("erect: 887 bytes", 30.0),
     ];
     assert!(named.eq(wanted.map(|(name, time)| (name.to_string(), time))));
+    let copies: Vec<String> = timed_copies().iter().map(TimedCopy::name).collect();
+    assert_eq!(copies, ["32 sections, 64 items", "12 sections, 8 items"]);
 }

@@ -64,22 +64,44 @@ impl TimedTower {
         self.tower.sections.len()
     }
 
+    /// How many items hang on it.
+    pub fn items(&self) -> usize {
+        self.tower.items.len()
+    }
+
+    /// The Rust version of the service, with it under the wind.
+    pub fn service(&self) -> &Service {
+        &self.service
+    }
+
     /// What the library is given.
-    fn windy(&self) -> Windy<'_> {
+    pub fn windy(&self) -> Windy<'_> {
         Windy {
             file: black_box(&self.file),
             wind: &self.wind,
         }
     }
 
-    /// How many numbers a report has.
-    fn room(&self) -> usize {
-        ROW * self.sections()
+    /// Zeros for as many numbers as a report has.
+    pub fn lent(&self) -> Vec<u64> {
+        vec![0; ROW * self.sections()]
+    }
+
+    /// Says how a report into lent numbers, which answers how many are accepted,
+    /// differs from the exact one, if it does.
+    pub fn report_difference(&self, report: impl FnOnce(&mut [u64]) -> u64) -> Option<String> {
+        let mut lent = self.lent();
+        if report(&mut lent) != 1 {
+            return Some("turns the report down".to_string());
+        }
+        let exact = self.exact_numbers();
+        let place = lent.iter().zip(&exact).position(|(l, r)| l != r)?;
+        Some(format!("reports other numbers from place {place} on"))
     }
 
     /// The exact report.
     pub fn exact_numbers(&self) -> Vec<u64> {
-        let mut lent = vec![0; self.room()];
+        let mut lent = self.lent();
         self.service.report(&mut lent).expect("a report");
         lent
     }
@@ -133,6 +155,11 @@ pub fn timed_towers() -> Vec<TimedTower> {
     ]
 }
 
+/// The first of these.
+pub fn largest() -> TimedTower {
+    timed_towers().remove(0)
+}
+
 /// The mast with one tube a section.
 fn one_tube_mast() -> TimedTower {
     let tower = towers::tower(Rounds::One, 12, 8);
@@ -164,7 +191,7 @@ impl Proved for TimedTower {
     }
 
     fn library(&self, library: &Calls, rounds: u64) -> u64 {
-        let mut lent = vec![0; self.room()];
+        let mut lent = self.lent();
         let accepted = library.report(&self.windy(), rounds, &mut lent);
         assert_eq!(accepted, rounds, "{}", self.name);
         black_box(lent);
@@ -172,15 +199,7 @@ impl Proved for TimedTower {
     }
 
     fn difference(&self, library: &Calls) -> Option<String> {
-        let mut lent = vec![0; self.room()];
-        let accepted = library.report(&self.windy(), 1, &mut lent);
-        let exact = self.exact_numbers();
-        let differs = if accepted != 1 {
-            "turns the report down".to_string()
-        } else {
-            let place = lent.iter().zip(&exact).position(|(l, r)| l != r)?;
-            format!("reports other numbers from place {place} on")
-        };
+        let differs = self.report_difference(|lent| library.report(&self.windy(), 1, lent))?;
         Some(format!("{}: {} {differs}", self.name, library.whose()))
     }
 }
@@ -196,7 +215,7 @@ impl Versions for TimedTower {
     }
 
     fn exact(&self, rounds: u64) -> u64 {
-        let mut lent = vec![0; self.room()];
+        let mut lent = self.lent();
         let report = |_: &u64| {
             black_box(&self.service)
                 .report(black_box(&mut lent))
@@ -211,6 +230,8 @@ impl Versions for TimedTower {
 pub enum Call {
     /// A dish hung, then taken down: two calls a round.
     Hang,
+    /// The item that was hung first taken down, then hung again: two calls a round.
+    FirstDown,
     /// The file erected.
     Erect,
 }
@@ -227,7 +248,7 @@ impl TimedCall {
     /// Calls in a round.
     pub fn in_round(&self) -> u64 {
         match self.call {
-            Call::Hang => 2,
+            Call::Hang | Call::FirstDown => 2,
             Call::Erect => 1,
         }
     }
@@ -241,23 +262,29 @@ impl Proved for TimedCall {
     fn name(&self) -> String {
         match self.call {
             Call::Hang => format!("hang, take down: {}", self.on.name),
+            Call::FirstDown => format!("first of {} items down, hung again", self.on.items()),
             Call::Erect => format!("erect: {} bytes", self.on.file.len()),
         }
     }
 
     fn rounds(&self) -> u64 {
         match self.call {
-            Call::Hang => 5_000,
+            Call::Hang | Call::FirstDown => 5_000,
             Call::Erect => 1_000,
         }
     }
 
+    fn is_in(&self, library: &Calls) -> bool {
+        self.call != Call::FirstDown || library.first_down(&self.on.windy(), 0).is_some()
+    }
+
     fn library(&self, library: &Calls, rounds: u64) -> u64 {
-        let call = match self.call {
-            Call::Hang => Calls::hang,
-            Call::Erect => Calls::erect,
-        };
-        call(library, &self.on.windy(), rounds)
+        let windy = self.on.windy();
+        match self.call {
+            Call::Hang => library.hang(&windy, rounds),
+            Call::FirstDown => library.first_down(&windy, rounds).expect("it is in it"),
+            Call::Erect => library.erect(&windy, rounds),
+        }
     }
 
     fn difference(&self, library: &Calls) -> Option<String> {
@@ -283,19 +310,27 @@ impl InRust for TimedCall {
                 let taken = black_box(&mut service).take_down(dish.number).is_ok();
                 u64::from(hung) + u64::from(taken)
             }
+            Call::FirstDown => {
+                let tower = black_box(&service).tower().expect("a tower");
+                let first = tower.items.first().copied().unwrap_or_else(|| dish(0));
+                let taken = service.take_down(first.number).is_ok();
+                let hung = black_box(&mut service).hang(first).is_ok();
+                u64::from(taken) + u64::from(hung)
+            }
             Call::Erect => u64::from(service.erect(black_box(&self.on.file)).is_ok()),
         };
         (0..rounds).map(accepted).sum()
     }
 }
 
-/// Those that are timed in two versions, the two on largest towers first.
+/// Those that are timed in two versions, the three on largest towers first.
 pub fn timed_calls() -> Vec<TimedCall> {
-    let largest = timed_towers().remove(0);
     let calls = [
         (Call::Hang, with_room()),
-        (Call::Erect, largest),
+        (Call::FirstDown, largest()),
+        (Call::Erect, largest()),
         (Call::Hang, mast()),
+        (Call::FirstDown, mast()),
         (Call::Erect, mast()),
     ];
     calls.map(|(call, on)| TimedCall { call, on }).into()

@@ -30,11 +30,15 @@ pub trait Library: Copy + 'static {
 }
 
 /// A struct of a library's functions by their names, and a type for those that take
-/// the same. Of another checkout they are linked by names that end in `_beside`.
+/// the same. Of another checkout they are linked by names that end in `_beside`; it
+/// may lack those in brackets, which stand there with their names as words.
 macro_rules! library {
     (
         $(#[$about:meta])* $library:ident of $name:literal
-        $($(#[$takes:meta])* $kind:ident $arguments:tt: $($function:ident),+;)+
+        $(
+            $(#[$takes:meta])* $kind:ident $arguments:tt:
+            $($function:ident),+ $([$($late:ident $word:literal),+])?;
+        )+
     ) => {
         $($(#[$takes])* type $kind = unsafe extern "C" fn $arguments -> u64;)+
 
@@ -42,37 +46,70 @@ macro_rules! library {
         #[derive(Clone, Copy)]
         pub struct $library {
             whose: &'static str,
-            $($($function: $kind,)+)+
+            $($($function: $kind,)+ $($($late: Option<$kind>,)+)?)+
         }
 
         impl Library for $library {
             const THIS: Self = {
                 extern "C" {
-                    $($(fn $function $arguments -> u64;)+)+
+                    $(
+                        $(fn $function $arguments -> u64;)+
+                        $($(fn $late $arguments -> u64;)+)?
+                    )+
                 }
-                $library { whose: "the library", $($($function,)+)+ }
+                $library {
+                    whose: "the library",
+                    $($($function,)+ $($($late: Some($late),)+)?)+
+                }
             };
 
             #[cfg(beside = $name)]
             const BESIDE: Option<Self> = {
                 extern "C" {
-                    $($(
-                        #[link_name = concat!(stringify!($function), "_beside")]
-                        fn $function $arguments -> u64;
-                    )+)+
+                    $(
+                        $(
+                            #[link_name = concat!(stringify!($function), "_beside")]
+                            fn $function $arguments -> u64;
+                        )+
+                        $($(
+                            #[cfg(beside = $word)]
+                            #[link_name = concat!($word, "_beside")]
+                            fn $late $arguments -> u64;
+                        )+)?
+                    )+
                 }
-                Some($library { whose: "the library beside", $($($function,)+)+ })
+                Some($library {
+                    whose: "the library beside",
+                    $(
+                        $($function,)+
+                        $($(
+                            #[cfg(beside = $word)]
+                            $late: Some($late),
+                            #[cfg(not(beside = $word))]
+                            $late: None,
+                        )+)?
+                    )+
+                })
             };
             #[cfg(not(beside = $name))]
             const BESIDE: Option<Self> = None;
 
             #[cfg(test)]
             const WRONG: Self = {
-                $($(
-                    #[allow(unused_variables)]
-                    extern "C" fn $function $arguments -> u64 { 1 }
-                )+)+
-                $library { whose: "a wrong library", $($($function,)+)+ }
+                $(
+                    $(
+                        #[allow(unused_variables)]
+                        extern "C" fn $function $arguments -> u64 { 1 }
+                    )+
+                    $($(
+                        #[allow(unused_variables)]
+                        extern "C" fn $late $arguments -> u64 { 1 }
+                    )+)?
+                )+
+                $library {
+                    whose: "a wrong library",
+                    $($($function,)+ $($($late: Some($late),)+)?)+
+                }
             };
 
             fn whose(&self) -> &'static str {
@@ -220,7 +257,7 @@ library! {
         rounds: u64,
         out: *mut u64,
         room: usize,
-    ): report_bench;
+    ): report_bench [keep_bench "keep_bench"];
     /// Takes the tower, the wind and the rounds.
     OnWindy(
         file: *const u8,
@@ -231,7 +268,7 @@ library! {
         pressures: *const u16,
         sections: usize,
         rounds: u64,
-    ): hang_bench, erect_bench;
+    ): hang_bench, erect_bench [first_down_bench "first_down_bench"];
 }
 
 /// A tower file that is erected on a fresh service, and the wind that is then set.
@@ -261,33 +298,52 @@ fn on_windy(call: OnWindy, windy: &Windy, rounds: u64) -> u64 {
     }
 }
 
+fn on_report(call: OnReport, windy: &Windy, rounds: u64, out: &mut [u64]) -> u64 {
+    let Windy { file, wind } = windy;
+    let pressures = &wind.pressures;
+    // SAFETY: the pointers and the lengths are those of three slices that do not
+    // overlap; the first two are only read.
+    unsafe {
+        call(
+            file.as_ptr(),
+            file.len(),
+            wind.direction,
+            wind.ice_class,
+            wind.structure_factor,
+            pressures.as_ptr(),
+            pressures.len(),
+            rounds,
+            out.as_mut_ptr(),
+            out.len(),
+        )
+    }
+}
+
 impl Calls {
     /// Reports into `out` so many times. How many are accepted.
     pub fn report(&self, windy: &Windy, rounds: u64, out: &mut [u64]) -> u64 {
-        let Windy { file, wind } = windy;
-        let pressures = &wind.pressures;
-        // SAFETY: the pointers and the lengths are those of three slices that do not
-        // overlap; the first two are only read.
-        unsafe {
-            (self.report_bench)(
-                file.as_ptr(),
-                file.len(),
-                wind.direction,
-                wind.ice_class,
-                wind.structure_factor,
-                pressures.as_ptr(),
-                pressures.len(),
-                rounds,
-                out.as_mut_ptr(),
-                out.len(),
-            )
-        }
+        on_report(self.report_bench, windy, rounds, out)
+    }
+
+    /// Copies the state so many times and reports once into `out` from the last
+    /// copy. Whether that is accepted, as 1 or 0; nothing if the library lacks it.
+    pub fn keep(&self, windy: &Windy, rounds: u64, out: &mut [u64]) -> Option<u64> {
+        let call = |call| on_report(call, windy, rounds, out);
+        self.keep_bench.map(call)
     }
 
     /// Hangs a dish and takes it down so many times. How many of the calls are
     /// accepted, two a round at the most.
     pub fn hang(&self, windy: &Windy, rounds: u64) -> u64 {
         on_windy(self.hang_bench, windy, rounds)
+    }
+
+    /// Takes down the item that was hung first, or a dish where none hangs, and
+    /// hangs it again so many times. The same answers; nothing if the library
+    /// lacks it.
+    pub fn first_down(&self, windy: &Windy, rounds: u64) -> Option<u64> {
+        let call = |call| on_windy(call, windy, rounds);
+        self.first_down_bench.map(call)
     }
 
     /// Erects the file so many times more. How many of the calls are accepted.

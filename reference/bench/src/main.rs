@@ -1,11 +1,12 @@
 //! Times the proved libraries beside Rust versions, all in one run on the same
 //! inputs: the section force and the report beside a plain floating-point version
-//! and the exact one, and the tower file and the other calls beside the Rust
-//! version; and the service program behind a pipe.
+//! and the exact one, and the tower file, the other calls and copies of a state
+//! beside the Rust version; and the service program behind a pipe.
 
 #[cfg(test)]
 mod call_tests;
 mod calls;
+mod copies;
 #[cfg(test)]
 mod field_tests;
 mod fields;
@@ -36,10 +37,11 @@ mod word_tests;
 mod words;
 
 use calls::{mast, timed_calls, timed_towers, with_room, TimedTower};
+use copies::timed_copies;
 use fields::{timed_fields, Fetch, TimedFields};
 use file::timed_files;
 use library::{Calls, Files, Forces, Library};
-use proved::{beside_rust, times, Differences, InRust, Proved};
+use proved::{beside_rust, times, works_in, Differences, InRust, Proved};
 use rates::Rate;
 use section::{sections, Kind, Timed};
 use std::process::ExitCode;
@@ -171,20 +173,29 @@ fn show_each<T: Copy>(
 /// Times these beside the Rust version and prints their table.
 fn show_beside_rust<P: InRust>(works: &[P]) {
     let by_turns = |work: &_| beside_rust(work, REPETITIONS);
-    show_pairs(&PairTable::rust(P::WHAT), works, by_turns);
+    show_pairs(&PairTable::rust(P::WHAT), works.iter(), by_turns);
 }
 
-/// Times these beside the other library, if asked for, and prints their table.
+/// Times those of these that the other library has beside it, if asked for, and
+/// prints their table.
 fn show_beside<P: Proved>(works: &[P], asked: &Run) {
     if let Some(other) = P::Library::beside(asked.beside) {
         let by_turns = |work: &_| proved::beside(work, &other, REPETITIONS);
+        let works = works_in(works, &other);
         show_pairs(&PairTable::beside(P::WHAT), works, by_turns);
     }
 }
 
-fn show_pairs<P: Proved>(table: &PairTable, works: &[P], by_turns: impl Fn(&P) -> Pair) {
-    println!("{}", table.head());
-    for work in works {
+/// Prints no table where there are none.
+fn show_pairs<'a, P: Proved + 'a>(
+    table: &PairTable,
+    works: impl Iterator<Item = &'a P>,
+    by_turns: impl Fn(&P) -> Pair,
+) {
+    for (place, work) in works.enumerate() {
+        if place == 0 {
+            println!("{}", table.head());
+        }
         println!("{}", table.line(&work.name(), by_turns(work)));
     }
 }
@@ -222,18 +233,20 @@ fn first<'a, T>(all: &'a [T], count: usize, asked: &Run) -> &'a [T] {
 }
 
 /// Compares the reports and, if they are the same, times the calls on the largest
-/// towers or on each.
+/// towers or on each, and copies of their states.
 fn run_calls(asked: &Run) -> bool {
-    let (towers, calls) = (timed_towers(), timed_calls());
+    let (towers, calls, copies) = (timed_towers(), timed_calls(), timed_copies());
     let other = Calls::beside(asked.beside);
     let mut differ = Differences::default();
     differ.compare(&towers, other);
     let plain = towers.iter().filter_map(TimedTower::plain_difference);
     differ.this.extend(plain);
     differ.compare(&calls, other);
+    differ.compare(&copies, other);
     let sound = may_be_timed("calls", &differ, asked);
     if sound {
-        let (towers, calls) = (first(&towers, 3, asked), first(&calls, 2, asked));
+        let (towers, calls) = (first(&towers, 3, asked), first(&calls, 3, asked));
+        let copies = first(&copies, 1, asked);
         println!("{}", head(TimedTower::WHAT));
         for timed in towers {
             println!("{}", line(timed.name, times(timed, REPETITIONS)));
@@ -241,6 +254,8 @@ fn run_calls(asked: &Run) -> bool {
         show_beside(towers, asked);
         show_beside_rust(calls);
         show_beside(calls, asked);
+        show_beside_rust(copies);
+        show_beside(copies, asked);
     }
     sound
 }

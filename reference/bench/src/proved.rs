@@ -14,6 +14,10 @@ pub trait Proved {
     fn name(&self) -> String;
     /// Rounds in each repetition.
     fn rounds(&self) -> u64;
+    /// Whether a library has what is called; another checkout's may lack it.
+    fn is_in(&self, _: &Self::Library) -> bool {
+        true
+    }
     /// So many rounds of a library. Answers something that depends on them.
     fn library(&self, library: &Self::Library, rounds: u64) -> u64;
     /// Says how a library differs from the Rust version, if it does.
@@ -57,13 +61,16 @@ impl Differences {
     /// beside.
     pub fn compare<P: Proved>(&mut self, works: &[P], beside: Option<P::Library>) {
         let of = |library| {
-            let difference = move |work: &P| work.difference(&library);
-            works.iter().filter_map(difference)
+            let compared = works_in(works, &library);
+            let difference = |work: &P| work.difference(&library);
+            let differ: Vec<String> = compared.clone().filter_map(difference).collect();
+            (differ, compared.count())
         };
-        self.this.extend(of(P::Library::THIS));
+        self.this.extend(of(P::Library::THIS).0);
         if let Some(other) = beside {
-            self.beside.extend(of(other));
-            self.compared += works.len();
+            let (differ, compared) = of(other);
+            self.beside.extend(differ);
+            self.compared += compared;
         }
     }
 
@@ -78,6 +85,14 @@ impl Differences {
         let (differ, all) = (self.beside.len(), self.compared);
         format!("the library beside differs in {differ} of {all} works")
     }
+}
+
+/// Those of these works that a library has.
+pub fn works_in<'a, P: Proved>(
+    works: &'a [P],
+    library: &'a P::Library,
+) -> impl Iterator<Item = &'a P> + Clone {
+    works.iter().filter(|work| work.is_in(library))
 }
 
 /// Of this repository's library and the Rust version.

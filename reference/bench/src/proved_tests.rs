@@ -1,6 +1,7 @@
 //! Tests of what all timed work of the libraries has, with them linked.
 
 use crate::calls::{timed_calls, timed_towers};
+use crate::copies::timed_copies;
 use crate::file::timed_files;
 use crate::library::{Calls, Forces, Library};
 use crate::proved::{beside, beside_rust, times, Differences, InRust, Proved, Versions};
@@ -32,7 +33,10 @@ fn a_difference_is_told_with_the_name_of_the_library() {
     assert_eq!((reports.len(), &reports[0]), (6, &report));
     let calls = of_the_wrong(&timed_calls());
     let erect = "erect: 2915 bytes: of 3 calls a wrong library accepts 1, Rust 3";
-    assert_eq!((calls.len(), &calls[1][..]), (4, erect));
+    assert_eq!((calls.len(), &calls[2][..]), (6, erect));
+    let copies = of_the_wrong(&timed_copies());
+    let copy = format!("a copy, 32 sections, 64 items: {other}");
+    assert_eq!((copies.len(), &copies[0]), (2, &copy));
 }
 
 /// Whether the other libraries are asked for or not.
@@ -52,6 +56,7 @@ fn the_libraries_do_not_differ() {
     differs_nowhere(&timed_files());
     differs_nowhere(&timed_towers());
     differs_nowhere(&timed_calls());
+    differs_nowhere(&timed_copies());
 }
 
 #[test]
@@ -74,7 +79,7 @@ fn a_changed_library_beside_may_differ_and_is_counted() {
     differ.compare(&timed_towers(), Some(Calls::WRONG));
     differ.compare(&timed_calls(), Some(Calls::THIS));
     assert_eq!(differ.that_stop(true), [""; 0]);
-    let counted = "the library beside differs in 6 of 10 works";
+    let counted = "the library beside differs in 6 of 12 works";
     assert_eq!(differ.beside(), counted);
     differ.this.push("ours".into());
     assert_eq!(differ.that_stop(true), ["ours"]);
@@ -107,7 +112,7 @@ fn is_time(pair: Pair) -> bool {
 
 /// Beside itself, and beside another checkout's if it is linked.
 fn has_times<P: Proved>(work: &P) {
-    for library in P::Library::all(true) {
+    for library in P::Library::all(true).filter(|library| work.is_in(library)) {
         assert!(is_time(beside(work, &library, 1)), "{}", work.name());
     }
 }
@@ -129,7 +134,8 @@ fn a_library_may_be_timed_beside_another() {
     has_times_of_three(&supercritical(1)[0]);
     timed_files()[..2].iter().for_each(has_times_in_rust);
     has_times_of_three(&timed_towers()[0]);
-    timed_calls()[..2].iter().for_each(has_times_in_rust);
+    timed_calls()[..3].iter().for_each(has_times_in_rust);
+    has_times_in_rust(&timed_copies()[0]);
 }
 
 #[test]

@@ -22,8 +22,9 @@ one number; these numbers are compared with the Rust version's too.
 calls: checks that the proved library and the exact Rust version report the same
 numbers for largest towers, with four supercritical tubes a section, with one and
 without, then prints the nanoseconds per report of the library, of a plain f64
-version and of the exact version; and those per hang or take down with 63 items
-hung, and per erect, of the library and of the Rust version.
+version and of the exact version; and of the library and of the Rust version those
+per hang or take down, of a dish beside 63 items and of the first of 64, per erect,
+and per copy of a state, from which both report the same numbers.
 
 pipe: starts the service program and prints how many requests a second it answers
 through a pipe: hangings and take-downs, reports, and round trips, each of which
@@ -39,8 +40,9 @@ answer differs, but for what --changed allows.
                     towers, and for each million
   --beside          with force, file or calls: also compare the libraries that
                     reference/benchmark --beside FOLDER links, and time each by
-                    turns with this repository's; of the sections the mean, and
-                    the one with the greatest ratio
+                    turns with this repository's, but for functions that they
+                    lack; of the sections the mean, and the one with the greatest
+                    ratio
   --changed         with --beside: where those libraries differ, say in how many
                     works and time them all the same
   --towerd PROGRAM  the service program that pipe starts

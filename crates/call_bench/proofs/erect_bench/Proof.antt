@@ -1,10 +1,10 @@
 use Prim.Native.Nat.{_-_, _≤_}
 use mathlib.Core.Path.{_≡_}
 use native.Mathlib.Omega.{arith}
-use Rattle.service.specs.Promises.{windAsked}
-use borrow.Author.Needs.{needs}
+use Rattle.slots.specs.Promises.{windAsked}
 use Rattle.call_bench.specs.Repeated.{windy, inRounds, erectRound}
 use Rattle.call_bench.proofs.Repeating.{After, no-round, after-more, round-more}
+use borrow.Author.Needs.{needs}
 use Rattle.call_bench.proofs.erect_bench.Statement.{statement}
 use Rattle.call_bench.proofs.erect_bench.Tie as tie
 
@@ -35,14 +35,14 @@ loop-less c = search needs
 
 loop-again : tie.Need-loop-again Inv-loop μ-loop
 loop-again c =
-    let e = c .before .before in
-    let l = e .before .before in
-    (omega (arith, e .before .loop-test .taken), round-more _ _ _ (after-more _ _ _ (l .loop .inv .1) (e .erect .ensures) (c .before .counted .ensures)))
+    let e = c .before in
+    let i = e .before .before in
+    (omega (arith, i .loop-test .taken), round-more _ _ _ (after-more _ _ _ (e .erect .result) (i .before .loop .inv .1) (e .erect .ensures) (c .counted .ensures)))
 
 returns : tie.Need-returns Inv-loop μ-loop
 returns c =
     let l = c .before in
-    let e : l .loop .counter ≡ l .before .before .before .before .args .rounds = omega (arith, l .loop .inv .0, c .loop-test .left) in
+    let e : l .loop .counter ≡ l .before .before .before .before .before .args .rounds = omega (arith, l .loop .inv .0, c .loop-test .left) in
     rw e at (l .loop .inv .1 .count)
 
 pub erect-bench-spec : {M : Type 1} → statement M

@@ -1,10 +1,10 @@
 use Prim.Native.Nat.{_-_, _≤_}
 use mathlib.Core.Path.{_≡_}
 use native.Mathlib.Omega.{arith}
-use Rattle.service.specs.Promises.{windAsked}
-use borrow.Author.Needs.{needs}
+use Rattle.slots.specs.Promises.{windAsked}
 use Rattle.call_bench.specs.Repeated.{windy, inRounds, hangRound}
 use Rattle.call_bench.proofs.Repeating.{After, no-round, after-two, round-more}
+use borrow.Author.Needs.{needs}
 use Rattle.call_bench.proofs.hang_bench.Statement.{statement}
 use Rattle.call_bench.proofs.hang_bench.Tie as tie
 
@@ -39,29 +39,29 @@ take-down-requires c κs = search needs
 counted-requires-2 : tie.Need-counted-requires-2 Inv-loop μ-loop
 counted-requires-2 c κs = search needs
 
-abbrev inside : tie.After-state Inv-loop μ-loop → tie.In-loop Inv-loop μ-loop
-inside c = c .before .before .before .before .before .before .before
-
 add-i : tie.Need-add-i Inv-loop μ-loop
-add-i c = omega (arith, inside c .loop-test .taken, inside c .before .before .before .before .before .fits .rounds)
+add-i c = search needs
 
 loop-less : tie.Need-loop-less Inv-loop μ-loop
-loop-less c = omega (arith, inside c .loop-test .taken)
+loop-less c = search needs
 
 loop-again : tie.Need-loop-again Inv-loop μ-loop
 loop-again c =
-    let d = c .before .before in
+    let d = c .before in
     let n = d .before .before in
     let h = n .before in
     let g = h .before in
-    let l = g .before .before in
-    let hung = rw (g .dish .ensures) at (h .hang .ensures) in
-    (omega (arith, g .before .loop-test .taken), round-more _ _ _ (after-two _ _ _ _ (l .loop .inv .1) hung (n .counted .ensures) (d .take-down .ensures) (c .before .counted2 .ensures)))
+    let i = g .before .before in
+    let hung = rw (g .dish .ensures) at (h .hang .ensures) in (
+      omega (arith, i .loop-test .taken),
+      round-more _ _ _
+          (after-two _ _ _ _ (h .hang .result) (d .take-down .result) (i .before .loop .inv .1) hung (n .counted .ensures) (d .take-down .ensures) (c .counted2 .ensures)),
+    )
 
 returns : tie.Need-returns Inv-loop μ-loop
 returns c =
     let l = c .before in
-    let e : l .loop .i ≡ l .before .before .before .before .args .rounds = omega (arith, l .loop .inv .0, c .loop-test .left) in
+    let e : l .loop .i ≡ l .before .before .before .before .before .args .rounds = omega (arith, l .loop .inv .0, c .loop-test .left) in
     rw e at (l .loop .inv .1 .count)
 
 pub hang-bench-spec : {M : Type 1} → statement M

@@ -1,10 +1,10 @@
 use Prim.Native.Nat.{_-_, _≤_}
 use mathlib.Core.Path.{_≡_}
 use native.Mathlib.Omega.{arith}
-use Rattle.service.specs.Promises.{windAsked}
-use borrow.Author.Needs.{needs}
+use Rattle.slots.specs.Promises.{windAsked}
 use Rattle.call_bench.specs.Repeated.{windy, Reported}
 use Rattle.call_bench.proofs.Repeating.{reported-none, reported-more, reported-length}
+use borrow.Author.Needs.{needs}
 use Rattle.call_bench.proofs.report_bench.Statement.{statement}
 use Rattle.call_bench.proofs.report_bench.Tie as tie
 
@@ -36,19 +36,19 @@ loop-less c = search needs
 loop-again : tie.Need-loop-again Inv-loop μ-loop
 loop-again c =
     let r = c .before .before .before in
-    let i = r .before .before in
+    let i = r .before .before .before in
     let l = i .before in
-    let a = l .before .before .before .before .before .args in
+    let a = l .before .before .before .before .before .before .args in
     let m = windy (a .file .now) (windAsked (a .direction) (a .ice) (a .factor) (a .pressures .now)) in (
       omega (arith, i .loop-test .taken),
-      reported-more m (a .out .now) (l .loop .counter) (l .before .windy .result) (l .before .windy .ensures) (l .loop .inv .1) (r .report .ensures)
+      reported-more m (a .out .now) (l .loop .counter) _ (r .report .result) (l .before .windy .ensures) (l .loop .inv .1) (r .report .ensures)
           (c .counted .ensures),
     )
 
 returns : tie.Need-returns Inv-loop μ-loop
 returns c =
     let l = c .before in
-    let e : l .loop .counter ≡ l .before .before .before .before .before .args .rounds = omega (arith, l .loop .inv .0, c .loop-test .left) in
+    let e : l .loop .counter ≡ l .before .before .before .before .before .before .args .rounds = omega (arith, l .loop .inv .0, c .loop-test .left) in
     rw e at (l .loop .inv .1)
 
 same-length : tie.Need-same-length Inv-loop μ-loop

@@ -14,9 +14,8 @@ set-wind-requires c κs = search needs
 
 returns : tie.Need-returns
 returns c =
-    let w = c .before in
-    let e = w .before .before in
-    windy-known _ _ (e .before .fresh .result) (e .before .fresh .ensures) (e .erect .ensures) (w .set-wind .ensures)
+    let e = c .before .before in
+    windy-known _ _ (e .before .before .fresh .ensures) (e .erect .ensures) (c .set-wind .ensures)
 
 pub windy-spec : {M : Type 1} → statement M
 windy-spec = tie.close (tie.spec fresh-requires erect-requires set-wind-requires returns)

@@ -11,7 +11,7 @@ item-sums-requires : tie.Need-item-sums-requires
 item-sums-requires c κs =
     let p = c .before .before .pre in
     let f = rw (← c .thickness .ensures) at (p .0 .fits) in
-    (under-facts _ _ f .ice, p .1, p .2)
+    (p .1, p .2, under-facts _ _ f .ice)
 
 array-read-sum : tie.Need-array-read-sum
 array-read-sum c = search needs

@@ -1,6 +1,4 @@
 use borrow.Author.Needs.{needs}
-use borrow.Author.Tests.{le-leb}
-use Rattle.exact.proofs.Bools.{passed}
 use Rattle.force_cases.proofs.answer_items.Statement.{statement}
 use Rattle.force_cases.proofs.answer_items.Tie as tie
 
@@ -70,14 +68,14 @@ same-length-4 c = search needs
 returns-4 : tie.Need-returns-4
 returns-4 c = search needs
 
-add-items-of : tie.Need-add-items-of
-add-items-of c = search needs
+add-put-items : tie.Need-add-put-items
+add-put-items c = search needs
 
-items-of-requires : tie.Need-items-of-requires
-items-of-requires c κs = search needs
+slice-aggregate-put-items : tie.Need-slice-aggregate-put-items
+slice-aggregate-put-items c = search needs
 
-items-fit-requires : tie.Need-items-fit-requires
-items-fit-requires c κs = search needs
+put-items-requires : tie.Need-put-items-requires
+put-items-requires c κs = search needs
 
 slice-aggregate-refuse-5 : tie.Need-slice-aggregate-refuse-5
 slice-aggregate-refuse-5 c = search needs
@@ -91,11 +89,11 @@ same-length-5 c = search needs
 returns-5 : tie.Need-returns-5
 returns-5 c = search needs
 
+slice-aggregate-answer-case : tie.Need-slice-aggregate-answer-case
+slice-aggregate-answer-case c = search needs
+
 answer-case-requires : tie.Need-answer-case-requires
-answer-case-requires c κs =
-    let h = c .before .before .before .before .before .before .if2 .left in
-    let k = passed (c .before .before .items-fit .ensures) (c .before .if5 .left) in
-    (c .before .before .before .before .before .before .before .before .before .before .before .before .before .pre, h, rw (le-leb _ _ h) at k)
+answer-case-requires c κs = search needs
 
 same-length-6 : tie.Need-same-length-6
 same-length-6 c = search needs
@@ -129,13 +127,14 @@ answer-items-spec =
     refuse-requires-4
     same-length-4
     returns-4
-    add-items-of
-    items-of-requires
-    items-fit-requires
+    add-put-items
+    slice-aggregate-put-items
+    put-items-requires
     slice-aggregate-refuse-5
     refuse-requires-5
     same-length-5
     returns-5
+    slice-aggregate-answer-case
     answer-case-requires
     same-length-6
     returns-6)

@@ -12,8 +12,8 @@ abbrev μ-loop : tie.MeasureT-loop
 standing-requires : tie.Need-standing-requires Inv-loop μ-loop
 standing-requires c κs = search needs
 
-pressed-requires : tie.Need-pressed-requires Inv-loop μ-loop
-pressed-requires c κs = search needs
+press-requires : tie.Need-press-requires Inv-loop μ-loop
+press-requires c κs = search needs
 
 rows-of-requires : tie.Need-rows-of-requires Inv-loop μ-loop
 rows-of-requires c κs = search needs
@@ -27,8 +27,8 @@ print-pressed-requires c κs = search needs
 loop-holds : tie.Need-loop-holds Inv-loop μ-loop
 loop-holds c = search needs
 
-pressed-requires-2 : tie.Need-pressed-requires-2 Inv-loop μ-loop
-pressed-requires-2 c κs = search needs
+press-requires-2 : tie.Need-press-requires-2 Inv-loop μ-loop
+press-requires-2 c κs = search needs
 
 rows-of-requires-2 : tie.Need-rows-of-requires-2 Inv-loop μ-loop
 rows-of-requires-2 c κs = search needs
@@ -79,12 +79,12 @@ print-pressures-spec =
     Inv-loop
     μ-loop
     standing-requires
-    pressed-requires
+    press-requires
     rows-of-requires
     mixed-requires
     print-pressed-requires
     loop-holds
-    pressed-requires-2
+    press-requires-2
     rows-of-requires-2
     compared-requires
     mixed-requires-2

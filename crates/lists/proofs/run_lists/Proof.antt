@@ -4,10 +4,10 @@ use Rattle.lists.proofs.run_lists.Statement.{statement}
 use Rattle.lists.proofs.run_lists.Tie as tie
 
 abbrev Inv-loop : tie.InvT-loop
-Inv-loop counts₀ place₀ t7 counts place = Unit {0}
+Inv-loop state₀ counts₀ place₀ t8 state counts place = Unit {0}
 
 abbrev μ-loop : tie.MeasureT-loop
-μ-loop counts₀ place₀ t7 counts place = 2000 - place
+μ-loop state₀ counts₀ place₀ t8 state counts place = 2000 - place
 
 loop-holds : tie.Need-loop-holds Inv-loop μ-loop
 loop-holds c = search needs

@@ -4,10 +4,10 @@ use Rattle.lists.proofs.run_part.Statement.{statement}
 use Rattle.lists.proofs.run_part.Tie as tie
 
 abbrev Inv-loop : tie.InvT-loop
-Inv-loop list from to run₀ place₀ run place = Unit {0}
+Inv-loop s₀ list from to run₀ place₀ s run place = Unit {0}
 
 abbrev μ-loop : tie.MeasureT-loop
-μ-loop list from to run₀ place₀ run place = to - place
+μ-loop s₀ list from to run₀ place₀ s run place = to - place
 
 loop-holds : tie.Need-loop-holds Inv-loop μ-loop
 loop-holds c = search needs

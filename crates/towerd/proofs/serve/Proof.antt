@@ -71,8 +71,8 @@ loop-less-3 c = search needs
 
 loop-again-3 : tie.Need-loop-again-3 Inv-loop μ-loop
 loop-again-3 c =
-    let a = c .before .before .before .before .before .before .before .before .before in
-    let e = a .before .before .before .before .before .before .before .before in
+    let a = c .before .before .before .before .before .before .before .before in
+    let e = a .before .before .before .before .before .before .before .before .before in
     let i = e .before .before .before .before .before .loop .inv in
     omega (arith, e .if2 .left, i .0 .start, i .0 .end, i .1, i .2, i .3, i .4, i .5, a .answer .kept)
 

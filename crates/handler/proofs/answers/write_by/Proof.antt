@@ -1,17 +1,14 @@
-use mathlib.Core.Path.{refl, sym}
+use mathlib.Core.Path.{sym}
 use lib.Seq.{length-take-le}
 use Rattle.handler.proofs.Asking.{write-many, write-so}
-use Rattle.handler.proofs.Answering.{file-there, file-not}
-use Rattle.handler.proofs.Stepping.{asks}
+use Rattle.handler.proofs.Stepping.{asks, wrong-step}
+use Rattle.handler.proofs.Answering.{file-step, file-refused}
 use borrow.Author.Needs.{needs}
 use Rattle.handler.proofs.answers.write_by.Statement.{statement}
 use Rattle.handler.proofs.answers.write_by.Tie as tie
 
-is-wrong-requires : tie.Need-is-wrong-requires
-is-wrong-requires c κs = search needs
-
 returns : tie.Need-returns
-returns c = λ rows. asks (write-many _ _ (c .before .if1 .taken)) (c .is-wrong .ensures rows _)
+returns c = λ rows. wrong-step (write-many _ _ (c .if1 .taken)) rows _
 
 room-at-requires : tie.Need-room-at-requires
 room-at-requires c κs = search needs
@@ -39,7 +36,7 @@ returns-2 c =
     let p = c .before .before .before .before .before in
     let a = p .before .before in
     let r = rw (c .before .answer .given .1) at (p .write .ensures) in
-    λ rows. asks (write-so _ _ (a .before .if1 .left) (a .room-at .ensures .0)) (record { state = refl; reply = file-there _ _ _ _ _ (length-take-le _ _ (a .room-at .ensures .1)) _ r })
+    λ rows. asks (write-so _ _ (a .before .if1 .left) (a .room-at .ensures .0)) (file-step _ _ _ _ _ (length-take-le _ _ (a .room-at .ensures .1)) _ r)
 
 same-length-2 : tie.Need-same-length-2
 same-length-2 c = search needs
@@ -49,13 +46,12 @@ returns-3 c =
     let p = c .before .before .before .before .before in
     let a = p .before .before in
     let r = rw (c .before .answer2 .given .1) at (p .write .ensures) in
-    λ rows. asks (write-so _ _ (a .before .if1 .left) (a .room-at .ensures .0)) (record { state = refl; reply = file-not _ _ _ _ _ (length-take-le _ _ (a .room-at .ensures .1)) _ r })
+    λ rows. asks (write-so _ _ (a .before .if1 .left) (a .room-at .ensures .0)) (file-refused _ _ _ _ _ (length-take-le _ _ (a .room-at .ensures .1)) _ r)
 
 pub write-by-spec : {M : Type 1} → statement M
 write-by-spec =
     tie.close
     (tie.spec
-    is-wrong-requires
     returns
     room-at-requires
     slice-relend-prefix-write

@@ -5,22 +5,16 @@ use lib.ListN.{getD}
 use borrow.Author.Tests.{ltb-true}
 use Rattle.exact.proofs.Bools.{passed, failed}
 use Rattle.handler.proofs.Asking.{down-few, down-many, down-wide, down-so}
-use Rattle.handler.proofs.Stepping.{asks-any, call-step}
+use Rattle.handler.proofs.Stepping.{asks-any, wrong-step, call-step}
 use borrow.Author.Needs.{needs}
 use Rattle.handler.proofs.changes.take_down_by.Statement.{statement}
 use Rattle.handler.proofs.changes.take_down_by.Tie as tie
 
-is-wrong-requires : tie.Need-is-wrong-requires
-is-wrong-requires c κs = search needs
-
 returns : tie.Need-returns
-returns c = asks-any (down-few _ (c .before .if1 .taken)) (c .is-wrong .ensures)
-
-is-wrong-requires-2 : tie.Need-is-wrong-requires-2
-is-wrong-requires-2 c κs = search needs
+returns c = wrong-step (down-few _ (c .if1 .taken))
 
 returns-2 : tie.Need-returns-2
-returns-2 c = asks-any (down-many _ (c .before .if2 .taken)) (c .is-wrong2 .ensures)
+returns-2 c = wrong-step (down-many _ (c .if2 .taken))
 
 shared-slice-read-number : tie.Need-shared-slice-read-number
 shared-slice-read-number c = search needs
@@ -28,47 +22,40 @@ shared-slice-read-number c = search needs
 fits16-requires : tie.Need-fits16-requires
 fits16-requires c κs = search needs
 
-is-wrong-requires-3 : tie.Need-is-wrong-requires-3
-is-wrong-requires-3 c κs = search needs
-
 returns-3 : tie.Need-returns-3
 returns-3 c =
-    let f = c .before .before in
-    let e = f .before .before in
-    asks-any (down-wide _ (e .before .if1 .left) (e .if2 .left) (failed (f .fits16 .ensures) (c .before .if3 .taken))) (c .is-wrong3 .ensures)
+    let e = c .before .before .before in
+    wrong-step (down-wide _ (e .before .if1 .left) (e .if2 .left) (failed (c .before .fits16 .ensures) (c .if3 .taken)))
 
 small : (c : tie.Else3) → getD (c .before .before .before .before .before .before .args .args .now) 0 0 < 2 ^ 16
 small c = ltb-true _ _ (passed (c .before .fits16 .ensures) (c .if3 .left))
 
 cast-take-down : tie.Need-cast-take-down
-cast-take-down c = omega (arith, small c)
+cast-take-down c = omega (arith, small (c .before))
 
 take-down-requires : tie.Need-take-down-requires
 take-down-requires c κs = search needs
 
-answered-requires : tie.Need-answered-requires
-answered-requires c κs = search needs
+message-of-requires : tie.Need-message-of-requires
+message-of-requires c κs = search needs
 
 returns-4 : tie.Need-returns-4
 returns-4 c =
-    let g = c .before .before in
+    let g = c .before .before .before in
     let e = g .before .before .before in
     asks-any (down-so _ (e .before .if1 .left) (e .if2 .left) (passed (g .before .fits16 .ensures) (g .if3 .left)))
-    (call-step _ _ refl (c .before .take-down .ensures) (c .answered .ensures))
+    (call-step _ (c .before .take-down .result) refl (c .before .take-down .ensures) (c .message-of .ensures))
 
 pub take-down-by-spec : {M : Type 1} → statement M
 take-down-by-spec =
     tie.close
     (tie.spec
-    is-wrong-requires
     returns
-    is-wrong-requires-2
     returns-2
     shared-slice-read-number
     fits16-requires
-    is-wrong-requires-3
     returns-3
     cast-take-down
     take-down-requires
-    answered-requires
+    message-of-requires
     returns-4)

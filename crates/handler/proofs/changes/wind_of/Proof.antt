@@ -8,11 +8,11 @@ use lib.Seq.{length-take-le}
 use borrow.Author.Tests.{ltb-true, not-false}
 use Rattle.exact.proofs.Bools.{and-join, passed, failed}
 use Rattle.model.specs.Calls.{wind, bits}
-use Rattle.service.specs.Promises.{windAsked}
+use Rattle.slots.specs.Promises.{windAsked}
 use Rattle.requests.specs.Asked.{called}
 use Rattle.handler.proofs.Typed.{stored-rest}
 use Rattle.handler.proofs.Asking.{wind-wide, wind-so}
-use Rattle.handler.proofs.Stepping.{asks-any, call-step}
+use Rattle.handler.proofs.Stepping.{asks-any, wrong-step, call-step}
 use borrow.Author.Needs.{needs}
 use Rattle.handler.proofs.changes.wind_of.Statement.{statement}
 use Rattle.handler.proofs.changes.wind_of.Tie as tie
@@ -29,13 +29,10 @@ shared-slice-read-k c = search needs
 fits32-requires : tie.Need-fits32-requires
 fits32-requires c κs = search needs
 
-is-wrong-requires : tie.Need-is-wrong-requires
-is-wrong-requires c κs = search needs
-
 returns : tie.Need-returns
 returns c =
-    let f = c .before .before in
-    asks-any (wind-wide _ (many (f .before) .0) (many (f .before) .1) (rw (failed (f .fits32 .ensures) (c .before .if1 .taken)))) (c .is-wrong .ensures)
+    let f = c .before in
+    wrong-step (wind-wide _ (many (f .before) .0) (many (f .before) .1) (rw (failed (f .fits32 .ensures) (c .if1 .taken))))
 
 abbrev args2 : tie.Else1 → List ℕ
 args2 c = args1 (c .before .before)
@@ -49,14 +46,11 @@ shared-slice-read-ice c = search needs
 fits32-requires-2 : tie.Need-fits32-requires-2
 fits32-requires-2 c κs = search needs
 
-is-wrong-requires-2 : tie.Need-is-wrong-requires-2
-is-wrong-requires-2 c κs = search needs
-
 returns-2 : tie.Need-returns-2
 returns-2 c =
-    let f = c .before .before in
+    let f = c .before in
     let k = f .before .before in
-    asks-any (wind-wide _ (many (k .before .before) .0) (many (k .before .before) .1) (rw (fits-k k, failed (f .fits322 .ensures) (c .before .if2 .taken)))) (c .is-wrong2 .ensures)
+    wrong-step (wind-wide _ (many (k .before .before) .0) (many (k .before .before) .1) (rw (fits-k k, failed (f .fits322 .ensures) (c .if2 .taken))))
 
 abbrev args3 : tie.Else2 → List ℕ
 args3 c = args2 (c .before .before .before)
@@ -70,15 +64,12 @@ shared-slice-read-factor c = search needs
 fits32-requires-3 : tie.Need-fits32-requires-3
 fits32-requires-3 c κs = search needs
 
-is-wrong-requires-3 : tie.Need-is-wrong-requires-3
-is-wrong-requires-3 c κs = search needs
-
 returns-3 : tie.Need-returns-3
 returns-3 c =
-    let f = c .before .before in
+    let f = c .before in
     let i = f .before .before in
     let k = i .before .before .before in
-    asks-any (wind-wide _ (many (k .before .before) .0) (many (k .before .before) .1) (rw (fits-k k, fits-ice i, failed (f .fits323 .ensures) (c .before .if3 .taken)))) (c .is-wrong3 .ensures)
+    wrong-step (wind-wide _ (many (k .before .before) .0) (many (k .before .before) .1) (rw (fits-k k, fits-ice i, failed (f .fits323 .ensures) (c .if3 .taken))))
 
 abbrev args4 : tie.Else3 → List ℕ
 args4 c = args3 (c .before .before .before)
@@ -101,17 +92,14 @@ slice-aggregate-store-shorts c = search needs
 store-shorts-requires : tie.Need-store-shorts-requires
 store-shorts-requires c κs = search needs
 
-is-wrong-requires-4 : tie.Need-is-wrong-requires-4
-is-wrong-requires-4 c κs = search needs
-
 returns-4 : tie.Need-returns-4
 returns-4 c =
-    let p = c .before .before .before in
+    let p = c .before .before in
     let f = p .before .before .before in
     let i = f .before .before .before in
     let k = i .before .before .before in
     let r = stored-rest 16 (args4 f) _ 3 (p .store-shorts .ensures) in
-    asks-any (wind-wide _ (many (k .before .before) .0) (many (k .before .before) .1) (rw (fits-k k, fits-ice i, fits-factor f, failed (r .0) (c .before .if4 .taken)))) (c .is-wrong4 .ensures)
+    wrong-step (wind-wide _ (many (k .before .before) .0) (many (k .before .before) .1) (rw (fits-k k, fits-ice i, fits-factor f, failed (r .0) (c .if4 .taken))))
 
 sub-n : tie.Need-sub-n
 sub-n c = search needs
@@ -126,13 +114,13 @@ fit c =
     (ltb-true _ _ (fits-k (i .before .before .before)), ltb-true _ _ (fits-ice i), ltb-true _ _ (fits-factor f))
 
 cast-set-wind : tie.Need-cast-set-wind
-cast-set-wind c = omega (arith, fit c .0, fit c .1, fit c .2)
+cast-set-wind c = let b = fit (c .before) in omega arith
 
 cast-set-wind-2 : tie.Need-cast-set-wind-2
-cast-set-wind-2 c = omega (arith, fit c .0, fit c .1, fit c .2)
+cast-set-wind-2 c = let b = fit (c .before) in omega arith
 
 cast-set-wind-3 : tie.Need-cast-set-wind-3
-cast-set-wind-3 c = omega (arith, fit c .0, fit c .1, fit c .2)
+cast-set-wind-3 c = let b = fit (c .before) in omega arith
 
 array-share-prefix-pressures : tie.Need-array-share-prefix-pressures
 array-share-prefix-pressures c = search needs
@@ -143,12 +131,12 @@ slice-aggregate-set-wind c = sym (length-take-le _ _ (array-share-prefix-pressur
 set-wind-requires : tie.Need-set-wind-requires
 set-wind-requires c κs = search needs
 
-answered-requires : tie.Need-answered-requires
-answered-requires c κs = search needs
+message-of-requires : tie.Need-message-of-requires
+message-of-requires c κs = search needs
 
 returns-5 : tie.Need-returns-5
 returns-5 c =
-    let e = c .before .before .before in
+    let e = c .before .before .before .before in
     let p = e .before .before in
     let f = p .before .before .before in
     let i = f .before .before .before in
@@ -159,7 +147,7 @@ returns-5 c =
     let held = r .1 (not-false _ (e .if4 .left)) in
     asks-any (wind-so _ (many (k .before .before) .0) (many (k .before .before) .1) typed
     ∙ ap (λ (ps : List ℕ). called (wind (windAsked (getD l 0 0) (getD l 1 0) (getD l 2 0) ps))) (sym held))
-    (call-step _ _ refl (c .before .set-wind .ensures) (c .answered .ensures))
+    (call-step _ (c .before .set-wind .result) refl (c .before .set-wind .ensures) (c .message-of .ensures))
 
 pub wind-of-spec : {M : Type 1} → statement M
 wind-of-spec =
@@ -167,22 +155,18 @@ wind-of-spec =
     (tie.spec
     shared-slice-read-k
     fits32-requires
-    is-wrong-requires
     returns
     shared-slice-read-ice
     fits32-requires-2
-    is-wrong-requires-2
     returns-2
     shared-slice-read-factor
     fits32-requires-3
-    is-wrong-requires-3
     returns-3
     sub-store-shorts
     part-store-shorts-start
     part-store-shorts-end
     slice-aggregate-store-shorts
     store-shorts-requires
-    is-wrong-requires-4
     returns-4
     sub-n
     cast-set-wind
@@ -191,5 +175,5 @@ wind-of-spec =
     array-share-prefix-pressures
     slice-aggregate-set-wind
     set-wind-requires
-    answered-requires
+    message-of-requires
     returns-5)

@@ -1,4 +1,3 @@
-use Rattle.handler.proofs.Responding.{reply-within}
 use borrow.Author.Needs.{needs}
 use Rattle.handler.proofs.respond.respond.Statement.{statement}
 use Rattle.handler.proofs.respond.respond.Tie as tie
@@ -6,8 +5,8 @@ use Rattle.handler.proofs.respond.respond.Tie as tie
 step-line-requires : tie.Need-step-line-requires
 step-line-requires c κs = search needs
 
-put-reply-requires : tie.Need-put-reply-requires
-put-reply-requires c κs = reply-within (c .before .before .before .before .before .before .before .before .before .step-line .ensures .reply)
+put-message-requires : tie.Need-put-message-requires
+put-message-requires c κs = c .before .before .before .before .before .before .before .before .before .step-line .ensures .there
 
 same-length : tie.Need-same-length
 same-length c = search needs
@@ -22,14 +21,17 @@ same-length-4 : tie.Need-same-length-4
 same-length-4 c = search needs
 
 returns : tie.Need-returns
-returns c = search needs
+returns c =
+    let p = c .before .before in
+    let t = p .before .before .before .before .before .before .before .before .before .before .step-line .ensures in
+    record { state = t .state; text = rw (t .text) at (p .put-message .ensures); untouched = t .untouched }
 
 pub respond-spec : {M : Type 1} → statement M
 respond-spec =
     tie.close
     (tie.spec
     step-line-requires
-    put-reply-requires
+    put-message-requires
     same-length
     same-length-2
     same-length-3

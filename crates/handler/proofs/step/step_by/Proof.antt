@@ -49,37 +49,37 @@ help-by-requires c κs = search needs
 
 returns : tie.Need-returns
 unfolding askedBy
-returns c = λ most. asks (by-verb _ _ (c .before .enum-told .given .1)) (c .hang-by .ensures _ _)
+returns c = λ most. asks (by-verb _ _ (c .before .before .enum-told .given .1)) (c .hang-by .ensures _ _)
 
 returns-2 : tie.Need-returns-2
 unfolding askedBy
-returns-2 c = λ most. asks (by-verb _ _ (c .before .enum-told2 .given .1)) (c .take-down-by .ensures _ _)
+returns-2 c = λ most. asks (by-verb _ _ (c .before .before .enum-told2 .given .1)) (c .take-down-by .ensures _ _)
 
 returns-3 : tie.Need-returns-3
 unfolding askedBy
-returns-3 c = λ most. asks (by-verb _ _ (c .before .enum-told3 .given .1)) (c .wind-by .ensures _ _)
+returns-3 c = λ most. asks (by-verb _ _ (c .before .before .enum-told3 .given .1)) (c .wind-by .ensures _ _)
 
 same-length : tie.Need-same-length
 same-length c = search needs
 
 returns-4 : tie.Need-returns-4
 unfolding askedBy
-returns-4 c = λ most. asks (by-verb _ _ (c .before .before .before .before .enum-told4 .given .1)) (c .before .before .report-by .ensures _)
+returns-4 c = λ most. asks (by-verb _ _ (c .before .before .before .before .before .enum-told4 .given .1)) (c .before .before .report-by .ensures _)
 
 returns-5 : tie.Need-returns-5
 unfolding askedBy
-returns-5 c = λ most. asks (by-verb _ _ (c .before .enum-told5 .given .1)) (c .check-by .ensures _ _)
+returns-5 c = λ most. asks (by-verb _ _ (c .before .before .enum-told5 .given .1)) (c .check-by .ensures _ _)
 
 same-length-2 : tie.Need-same-length-2
 same-length-2 c = search needs
 
 returns-6 : tie.Need-returns-6
 unfolding askedBy
-returns-6 c = λ most. asks (by-verb _ _ (c .before .before .before .before .enum-told6 .given .1)) (c .before .before .write-by .ensures _)
+returns-6 c = λ most. asks (by-verb _ _ (c .before .before .before .before .before .enum-told6 .given .1)) (c .before .before .write-by .ensures _)
 
 returns-7 : tie.Need-returns-7
 unfolding askedBy
-returns-7 c = λ most. asks (by-verb _ _ (c .before .enum-told7 .given .1)) (c .help-by .ensures _ _)
+returns-7 c = λ most. asks (by-verb _ _ (c .before .enum-told7 .given .1)) (c .help-by .ensures _ _ _)
 
 pub step-by-spec : {M : Type 1} → statement M
 step-by-spec =

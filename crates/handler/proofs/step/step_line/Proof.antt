@@ -1,6 +1,6 @@
 use mathlib.Core.Path.{sym}
 use lib.Seq.{length-take-le}
-use Rattle.handler.proofs.Stepping.{asks, numbered-step}
+use Rattle.handler.proofs.Stepping.{asks, wrong-step, numbered-step}
 use borrow.Author.Needs.{needs}
 use Rattle.handler.proofs.step.step_line.Statement.{statement}
 use Rattle.handler.proofs.step.step_line.Tie as tie
@@ -13,7 +13,7 @@ enum-known-request c = search needs
 
 slice-reshare-prefix-step-by : tie.Need-slice-reshare-prefix-step-by
 slice-reshare-prefix-step-by c =
-    let q = c .before in
+    let q = c .before .before in
     let d = rw (q .request .given .1) at (q .before .before .before .before .before .before .read-line .ensures) in
     d .within
 
@@ -28,7 +28,7 @@ enum-known-request-2 c = search needs
 
 slice-reshare-prefix-erect-by : tie.Need-slice-reshare-prefix-erect-by
 slice-reshare-prefix-erect-by c =
-    let q = c .before in
+    let q = c .before .before in
     let d = rw (q .request2 .given .1) at (q .before .before .before .before .before .before .read-line .ensures) in
     d .within
 
@@ -40,9 +40,6 @@ erect-by-requires c κs = search needs
 
 enum-known-request-3 : tie.Need-enum-known-request-3
 enum-known-request-3 c = search needs
-
-is-wrong-requires : tie.Need-is-wrong-requires
-is-wrong-requires c κs = search needs
 
 same-length : tie.Need-same-length
 same-length c = search needs
@@ -56,7 +53,7 @@ same-length-3 c = search needs
 returns : tie.Need-returns
 returns c =
     let b = c .before .before .before .before in
-    let q = b .before .before .before .before .before in
+    let q = b .before .before .before .before .before .before in
     let l = q .before .before .before .before .before .before in
     let d = rw (q .request .given .1) at (l .read-line .ensures) in
     numbered-step d (search (needs, l .read-line .kept)) (b .step-by .ensures _)
@@ -69,7 +66,7 @@ same-length-5 c = search needs
 
 returns-2 : tie.Need-returns-2
 returns-2 c =
-    let q = c .before .before .before in
+    let q = c .before .before .before .before in
     let d = rw (q .request2 .given .1) at (q .before .before .before .before .before .before .read-line .ensures) in
     asks (sym (d .asked _)) (c .erect-by .ensures _ _)
 
@@ -81,9 +78,9 @@ same-length-7 c = search needs
 
 returns-3 : tie.Need-returns-3
 returns-3 c =
-    let q = c .before .before in
+    let q = c .before in
     let d = rw (q .request3 .given .1) at (q .before .before .before .before .before .before .read-line .ensures) in
-    asks (sym (d .asked _)) (c .is-wrong .ensures _ _)
+    wrong-step (sym (d .asked _)) _ _
 
 pub step-line-spec : {M : Type 1} → statement M
 step-line-spec =
@@ -99,7 +96,6 @@ step-line-spec =
     slice-aggregate-erect-by
     erect-by-requires
     enum-known-request-3
-    is-wrong-requires
     same-length
     same-length-2
     same-length-3

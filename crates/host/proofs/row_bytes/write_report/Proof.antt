@@ -1,29 +1,24 @@
-use mathlib.Core.Path.{_≡_, refl}
+use mathlib.Core.Path.{refl}
 use native.Mathlib.Omega.{arith}
-use lib.ListN.{length}
-use Rattle.model.proofs.Lists.{length-mapped}
-use Rattle.service.proofs.Facts.{held-facts}
-use borrow.Author.Needs.{needs}
 use Rattle.host.proofs.RowsOut.{rows-short, rows-written}
+use borrow.Author.Needs.{needs}
 use Rattle.host.proofs.row_bytes.write_report.Statement.{statement}
 use Rattle.host.proofs.row_bytes.write_report.Tie as tie
 
-abbrev start : tie.After-tower → tie.Start
-start c = c .before .before
-
-wide : (c : tie.Start) → length (c .args .s .tower .sections) ≡ 32
-wide c = search (needs, length-mapped, c .good)
+count-in-requires : tie.Need-count-in-requires
+count-in-requires c κs = search needs
 
 mul-if1 : tie.Need-mul-if1
-mul-if1 c = omega (arith, held-facts (start c .args .s) (start c .pre .0) .count)
+mul-if1 c = search needs
 
 refusal-number-requires : tie.Need-refusal-number-requires
 refusal-number-requires c κs = search needs
 
 returns : tie.Need-returns
 returns c =
-    let s = start (c .before .before) in
-    rows-short (s .args .s) (s .pre .0) (wide s) (omega (arith, c .before .if1 .taken)) (c .refusal-number .ensures)
+    let e = c .before in
+    let n = e .before .count-in in
+    λ t w stands. rows-short _ (n .result) (n .ensures .0) t w stands (omega (arith, e .if1 .taken)) (c .refusal-number .ensures)
 
 slice-aggregate-report : tie.Need-slice-aggregate-report
 slice-aggregate-report c = search needs
@@ -34,30 +29,26 @@ report-requires c κs = search needs
 mul-write-numbers : tie.Need-mul-write-numbers
 mul-write-numbers c = search needs
 
-abbrev room : tie.After-write-numbers-arg → tie.Else1
-room c = c .before .before .before .before
-
 write-numbers-requires : tie.Need-write-numbers-requires
-write-numbers-requires c κs =
-    let e = room c in
-    let s = start (e .before) in
-    let f = held-facts (s .args .s) (s .pre .0) .count in
-    (omega arith, omega (arith, e .if1 .left))
+write-numbers-requires c κs = search needs
 
 same-length : tie.Need-same-length
 same-length c = search needs
 
 returns-2 : tie.Need-returns-2
 returns-2 c =
-    let w = c .before .before in
-    let e = room (w .before) in
-    let s = start (e .before) in
-    rows-written (s .args .s) (s .pre .0) (wide s) (s .pre .1) refl (w .before .before .before .report .ensures) (e .if1 .left) (w .write-numbers .ensures)
+    let p = c .before .before in
+    let r = p .before .before .before in
+    let e = r .before .before in
+    let n = e .before .count-in in
+    λ t w stands.
+    rows-written _ (n .result) (n .ensures .0) t w stands refl (r .report .ensures) (e .if1 .left) (p .write-numbers .ensures)
 
 pub write-report-spec : {M : Type 1} → statement M
 write-report-spec =
     tie.close
     (tie.spec
+    count-in-requires
     mul-if1
     refusal-number-requires
     returns

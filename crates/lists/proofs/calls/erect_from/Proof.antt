@@ -16,7 +16,7 @@ part-erect-start : tie.Need-part-erect-start
 part-erect-start c = search needs
 
 part-erect-end : tie.Need-part-erect-end
-part-erect-end c = omega (arith, long (c .before .before), c .before .before .pre)
+part-erect-end c = omega (arith, long (c .before .before .before), c .before .before .before .pre)
 
 erect-requires : tie.Need-erect-requires
 erect-requires c κs = search needs

@@ -16,7 +16,7 @@ part-set-wind-start : tie.Need-part-set-wind-start
 part-set-wind-start c = search needs
 
 part-set-wind-end : tie.Need-part-set-wind-end
-part-set-wind-end c = omega (arith, long (c .before .before), c .before .before .pre)
+part-set-wind-end c = omega (arith, long (c .before .before .before), c .before .before .before .pre)
 
 set-wind-requires : tie.Need-set-wind-requires
 set-wind-requires c κs = search needs

@@ -4,13 +4,19 @@ use Rattle.lists.proofs.million.start.Statement.{statement}
 use Rattle.lists.proofs.million.start.Tie as tie
 
 abbrev Inv-loop : tie.InvT-loop
-Inv-loop state₀ number₀ state number = Unit {0}
+Inv-loop s₀ number₀ s number = Unit {0}
 
 abbrev μ-loop : tie.MeasureT-loop
-μ-loop state₀ number₀ state number = 12 - number
+μ-loop s₀ number₀ s number = 12 - number
 
-erected-requires : tie.Need-erected-requires Inv-loop μ-loop
-erected-requires c κs = search needs
+fresh-requires : tie.Need-fresh-requires Inv-loop μ-loop
+fresh-requires c κs = search needs
+
+bare-file-requires : tie.Need-bare-file-requires Inv-loop μ-loop
+bare-file-requires c κs = search needs
+
+erect-from-requires : tie.Need-erect-from-requires Inv-loop μ-loop
+erect-from-requires c κs = search needs
 
 loop-holds : tie.Need-loop-holds Inv-loop μ-loop
 loop-holds c = search needs
@@ -45,7 +51,9 @@ start-spec =
     (tie.spec
     Inv-loop
     μ-loop
-    erected-requires
+    fresh-requires
+    bare-file-requires
+    erect-from-requires
     loop-holds
     numbered-requires
     hang-requires

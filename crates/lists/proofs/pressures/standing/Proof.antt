@@ -4,10 +4,10 @@ use Rattle.lists.proofs.pressures.standing.Statement.{statement}
 use Rattle.lists.proofs.pressures.standing.Tie as tie
 
 abbrev Inv-loop : tie.InvT-loop
-Inv-loop state₀ number₀ state number = Unit {0}
+Inv-loop s₀ number₀ s number = Unit {0}
 
 abbrev μ-loop : tie.MeasureT-loop
-μ-loop state₀ number₀ state number = 4 - number
+μ-loop s₀ number₀ s number = 4 - number
 
 fresh-requires : tie.Need-fresh-requires Inv-loop μ-loop
 fresh-requires c κs = search needs

@@ -4,7 +4,7 @@ use native.Mathlib.Omega.{arith}
 use lib.ListN.{length, length-take, length-drop}
 use borrow.Author.Needs.{needs}
 use Rattle.lines.specs.Text.{Puts}
-use Rattle.replies.specs.ReplyText.{rowsText}
+use Rattle.replies.specs.MessageText.{rowsText}
 use Rattle.replies.proofs.Rows.{rows-none, rows-more}
 use Rattle.replies.proofs.text.put_rows.Statement.{statement}
 use Rattle.replies.proofs.text.put_rows.Tie as tie

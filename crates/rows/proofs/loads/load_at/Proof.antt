@@ -1,30 +1,33 @@
 use native.Mathlib.Omega.{arith}
-use borrow.Author.Needs.{needs}
-use Rattle.rows.proofs.LoadOn.{load-on}
+use Rattle.rows.proofs.SectionLoads.{thin, factor-small, below, load-at}
 use Rattle.rows.proofs.loads.load_at.Statement.{statement}
 use Rattle.rows.proofs.loads.load_at.Tie as tie
 
-thickness-requires : tie.Need-thickness-requires
-thickness-requires c κs = search needs
+section-at-requires : tie.Need-section-at-requires
+section-at-requires c κs =
+    let p = c .pre .0 in
+    (p .0, thin (p .1), below (p .1) (c .args .i) (p .2))
 
-mul-q : tie.Need-mul-q
-mul-q c = search needs
-
-array-read-q : tie.Need-array-read-q
-array-read-q c = search needs
+pressure-at-requires : tie.Need-pressure-at-requires
+pressure-at-requires c κs =
+    let p = c .before .pre .0 in
+    (p .0, below (p .1) (c .before .args .i) (p .2))
 
 section-load-requires : tie.Need-section-load-requires
 section-load-requires c κs =
-    let p = c .before .before .pre in
-    rw (c .before .thickness .ensures) (p .1 .0, p .0 .1, p .0 .3, omega arith)
+    let r = c .before in
+    (r .section-at .ensures .1, factor-small (r .before .pre .0 .1), c .pressure-at .ensures .1, omega arith)
 
 returns : tie.Need-returns
 returns c =
-    let t = c .before .before in
-    let a = t .before .args in
-    let p = t .before .pre in
-    load-on (a .legs) (a .w) (a .s) (a .i) (a .items) (t .thickness .ensures) (p .1 .1) (p .0 .1) (p .0 .3) (p .1 .0) (c .section-load .ensures)
+    let o = c .before .before in
+    let q = o .before in
+    let r = q .before in
+    let s = r .before in
+    let p = s .pre .0 in
+    load-at (p .1) (s .args .i) (p .2) (r .section-at .result) (q .pressure-at .result) (s .args .items) (r .section-at .ensures) (q .pressure-at .ensures) (s .pre .1)
+    (o .section-load .ensures)
 
 pub load-at-spec : {M : Type 1} → statement M
 load-at-spec =
-    tie.close (tie.spec thickness-requires mul-q array-read-q section-load-requires returns)
+    tie.close (tie.spec section-at-requires pressure-at-requires section-load-requires returns)

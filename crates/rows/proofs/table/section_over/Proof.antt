@@ -1,102 +1,83 @@
-use Prim.Native.Nat.{_+_, _-_, _≤_, _<_}
-use mathlib.Core.Path.{_≡_, sym, _∙_}
+use Prim.Native.Nat.{_-_, _≤_}
+use mathlib.Core.Path.{_≡_, ap, sym, _∙_}
 use native.Mathlib.Omega.{arith}
-use lib.ListN.{length}
-use Rattle.model.specs.Tower.{towerOf, windOf}
-use Rattle.model.specs.Report.{sectionAt, forceAt, shearAt, exceeds}
-use Rattle.model.specs.Machine.{over, none-over}
-use Rattle.model.proofs.Lists.{length-mapped}
-use Rattle.rows.proofs.Stored.{Fitting, fitting, count-is, allowance-is}
-use Rattle.rows.proofs.LoadOn.{load-asked, load-is}
-use Rattle.rows.proofs.Steps.{Checked, checked-none, checked-next, exceeds-is}
+use denote.Ref.{now}
 use borrow.Author.Needs.{needs}
+use Rattle.model.specs.Answers.{accepts}
+use Rattle.model.specs.Report.{isOver}
+use Rattle.slots.specs.Held.{towerIn, windIn}
+use Rattle.slots.proofs.Grounds.{section-count}
+use Rattle.rows.proofs.SectionLoads.{thin, Known, known, few, case-asked}
+use Rattle.rows.proofs.Steps.{Checked, checked-none, exceeds-is, checked-next, over-found, none-found}
 use Rattle.rows.proofs.table.section_over.Statement.{statement}
 use Rattle.rows.proofs.table.section_over.Tie as tie
 
 abbrev Inv-loop : tie.InvT-loop
-Inv-loop w t legs count sums shear₀ i₀ shear i = (i ≤ t .count) × Checked (towerOf t) (windOf (t .count) w) i shear
+Inv-loop s case count held sums shear₀ i₀ shear i = (i ≤ count) × Known s case count sums × Checked (towerIn s) (windIn s) i shear
 
 abbrev μ-loop : tie.MeasureT-loop
-μ-loop w t legs count sums shear₀ i₀ shear i = t .count - i
+μ-loop s case count held sums shear₀ i₀ shear i = count - i
 
-fits : (c : tie.Start Inv-loop μ-loop) → Fitting (c .args .t1) (c .args .w)
-fits c =
-    fitting (c .args .t1) (c .args .w) (c .pre .0) (c .pre .1) (search (needs, length-mapped, c .good)) (search (needs, length-mapped, c .good))
-
-abbrev start : tie.At-loop Inv-loop μ-loop → tie.Start Inv-loop μ-loop
+abbrev start : tie.After-item-sums Inv-loop μ-loop → tie.Start Inv-loop μ-loop
 start c = c .before .before .before .before
 
-count : (c : tie.Start Inv-loop μ-loop) → length (towerOf (c .args .t1) .sections) ≡ c .args .t1 .count
-count c = count-is (c .args .t1) (c .args .w) (fits c)
+-- whether section i is over
+told : (c : tie.After-exceeds Inv-loop μ-loop) → let l = c .before .before .before .before .before in
+    let s = now (start (l .before) .args .s) in
+    c .exceeds .result ≡ isOver (towerIn s) (windIn s) (l .loop .i)
+told c =
+    let a = c .before .before .before in
+    c .exceeds .ensures ∙ exceeds-is (a .before .before .loop .inv .2) (a .load-at .ensures)
 
-force-is : (c : tie.After-load-at Inv-loop μ-loop) → let l = c .before .before .before in
-    let a = start l .args in
-    c .load-at .result .force ≡ forceAt (towerOf (a .t1)) (windOf (a .t1 .count) (a .w)) (l .loop .i)
-force-is c =
-    let i = c .before .before in
-    let l = i .before in
-    let s = start l in
-    load-is (s .args .t1) (s .args .w) (fits s) (l .loop .i) (i .loop-test .taken) (l .before .before .thickness .ensures) (l .before .item-sums .ensures) (c .load-at .ensures) .1
+load-case-requires : tie.Need-load-case-requires Inv-loop μ-loop
+load-case-requires c κs = search needs
 
-thickness-requires : tie.Need-thickness-requires Inv-loop μ-loop
-thickness-requires c κs = fits (c .before) .wind .ice
+count-in-requires : tie.Need-count-in-requires Inv-loop μ-loop
+count-in-requires c κs = search needs
+
+held-in-requires : tie.Need-held-in-requires Inv-loop μ-loop
+held-in-requires c κs = search needs
 
 item-sums-requires : tie.Need-item-sums-requires Inv-loop μ-loop
 item-sums-requires c κs =
-    let f = fits (c .before .before) in
-    rw (c .thickness .ensures) (omega (arith, f .wind .ice), omega (arith, f .tower .held), search (needs, f .tower .items))
+    let k = c .before .before in
+    (k .before .pre .0, c .held-in .ensures .1, thin (k .load-case .ensures))
 
 loop-holds : tie.Need-loop-holds Inv-loop μ-loop
 loop-holds c =
-    let a = c .before .before .before .args in
-    (omega arith, checked-none (towerOf (a .t1)) (windOf (a .t1 .count) (a .w)))
-
-mul-s : tie.Need-mul-s Inv-loop μ-loop
-mul-s c = omega (arith, fits (start (c .before)) .tower .count)
-
-element-copy-out-s : tie.Need-element-copy-out-s Inv-loop μ-loop
-element-copy-out-s c = omega (arith, fits (start (c .before)) .tower .count)
+    let h = c .before in
+    let n = h .before in
+    let k = n .before in
+    let s = k .before in (
+      omega arith,
+      known (s .pre .0) (k .load-case .ensures) (n .count-in .ensures .0) (h .held-in .ensures .0) (c .item-sums .ensures),
+      checked-none (towerIn (now (s .args .s))) (windIn (now (s .args .s))),
+    )
 
 mul-load-at : tie.Need-mul-load-at Inv-loop μ-loop
-mul-load-at c = omega (arith, fits (start (c .before .before)) .tower .count)
+mul-load-at c = search needs
 
 array-read-load-at : tie.Need-array-read-load-at Inv-loop μ-loop
-array-read-load-at c = omega (arith, fits (start (c .before .before)) .tower .count)
+array-read-load-at c = omega (arith, few (c .before .loop .inv .1))
 
 load-at-requires : tie.Need-load-at-requires Inv-loop μ-loop
-load-at-requires c κs =
-    let l = c .before .before in
-    let s = start l in
-    load-asked (s .args .t1) (s .args .w) (fits s) (l .loop .i) (c .before .loop-test .taken)
-    (l .before .item-sums .ensures .small _ (omega (arith, fits s .tower .count)))
+load-at-requires c κs = case-asked (c .before .loop .inv .1) (c .before .loop .i) (c .loop-test .taken)
 
-add-t23 : tie.Need-add-t23 Inv-loop μ-loop
-add-t23 c =
-    let a = c .before .before .before in
-    let l = a .before .before .before in
-    let n = fits (start l) .tower .count in
-    omega (arith, a .load-at .ensures .small, l .loop .inv .1 .small)
+add-t14 : tie.Need-add-t14 Inv-loop μ-loop
+add-t14 c =
+    let a = c .before .before in
+    let v = a .before .before .loop .inv in
+    omega (arith, a .load-at .ensures .small, v .2 .small, few (v .1))
 
 exceeds-requires : tie.Need-exceeds-requires Inv-loop μ-loop
 exceeds-requires c κs = search needs
 
--- whether section i is over
-told : (c : tie.After-exceeds Inv-loop μ-loop) → let l = c .before .before .before .before .before .before .before in
-    let a = start l .args in
-    c .exceeds .result ≡ exceeds (shearAt (towerOf (a .t1)) (windOf (a .t1 .count) (a .w)) (l .loop .i + 1)) (sectionAt (towerOf (a .t1)) (l .loop .i) .allowance)
-told c =
-    let i = c .before .before .before .before .before .before in
-    let l = i .before in
-    let s = start l in
-    c .exceeds .ensures
-    ∙ exceeds-is (l .loop .inv .1) (force-is (c .before .before .before .before)) (allowance-is (s .args .t1) (s .args .w) (fits s) (l .loop .i) (i .loop-test .taken))
-
 returns : tie.Need-returns Inv-loop μ-loop
 returns c =
-    let l = c .before .before .before .before .before .before .before .before in
-    let s = start l in
-    let h : l .loop .i < length (towerOf (s .args .t1) .sections) = omega (arith, count s) in
-    over (record { is-over = record { section = h; over = sym (told (c .before)) ∙ c .if1 .taken }; none-above = l .loop .inv .1 .none })
+    let i = c .before .before .before .before .before in
+    let l = i .before in
+    let n = section-count (now (start (l .before) .args .s)) in
+    ap accepts (over-found (l .loop .inv .2) (omega (arith, l .loop .inv .1 .counted, i .loop-test .taken)) (sym (told (c .before)) ∙ c .if1 .taken))
 
 add-i : tie.Need-add-i Inv-loop μ-loop
 add-i c = search needs
@@ -106,15 +87,15 @@ loop-less c = search needs
 
 loop-again : tie.Need-loop-again Inv-loop μ-loop
 loop-again c =
-    let a = c .before .before .before .before .before in
-    let l = a .before .before .before in
-    (omega arith, checked-next (l .loop .inv .1) (force-is a) (a .load-at .ensures .small) (sym (told (c .before)) ∙ c .if1 .left))
+    let a = c .before .before .before .before in
+    let v = a .before .before .loop .inv in
+    (omega arith, v .1, checked-next (v .2) (a .load-at .ensures) (sym (told (c .before)) ∙ c .if1 .left))
 
 returns-2 : tie.Need-returns-2 Inv-loop μ-loop
 returns-2 c =
     let l = c .before in
-    let s = start l in
-    none-over (λ i h. l .loop .inv .1 .none i (omega (arith, h .section, count s)) h)
+    let n = section-count (now (start (l .before) .args .s)) in
+    ap accepts (none-found (l .loop .inv .2) (omega (arith, l .loop .inv .1 .counted, c .loop-test .left)))
 
 pub section-over-spec : {M : Type 1} → statement M
 section-over-spec =
@@ -122,15 +103,15 @@ section-over-spec =
     (tie.spec
     Inv-loop
     μ-loop
-    thickness-requires
+    load-case-requires
+    count-in-requires
+    held-in-requires
     item-sums-requires
     loop-holds
-    mul-s
-    element-copy-out-s
     mul-load-at
     array-read-load-at
     load-at-requires
-    add-t23
+    add-t14
     exceeds-requires
     returns
     add-i

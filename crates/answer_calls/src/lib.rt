@@ -1,0 +1,3 @@
+// Report, check and write, on slots that the caller lends and that they leave.
+pub mod answers;
+mod tower;

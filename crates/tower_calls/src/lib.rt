@@ -1,0 +1,3 @@
+// Erect and wind, on slots that the caller lends.
+pub mod erect;
+pub mod wind;
