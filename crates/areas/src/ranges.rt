@@ -64,6 +64,7 @@ pub fn groups_fit(s: Section) -> bool
 }
 
 // Width, height, allowance and the number of groups.
+#[tactic(auto, unfolding(crate::specs::Fits::sizes_fit))]
 pub fn sizes_fit(s: Section) -> bool
     ensures { result ≡ sizes_fit s }
 {

@@ -1,5 +1,7 @@
 // A section under a wind, as a run of numbers: LEGS K ICE FACTOR PRESSURE WIDTH HEIGHT GROUPCOUNT (KIND SIZE LENGTH)*. What stands past
 // the end counts as 0, and a number that does not fit its type as the largest that does: no range reaches so far.
+#![tactic(auto)]
+
 pub mod faults;
 mod groups;
 pub mod items;
@@ -13,7 +15,7 @@ use model::Section;
 use units::{Force, Length};
 
 // The section and the wind on it, with no test of any range.
-#[derive(Drop)]
+#[derive(Clone, Copy)]
 pub struct Case {
     pub legs: u32,
     pub direction: u32,
@@ -25,7 +27,7 @@ pub struct Case {
 
 // The first thing that is wrong with a case, or nothing. Missing: there are fewer than 8 numbers, or, after Sizes, too few for the groups.
 // Sizes: the width, the height or the number of groups. Solidity: A_S is above A_u, bare or under the ice.
-#[derive(Drop)]
+#[derive(Clone, Copy)]
 pub enum Fault {
     None,
     Missing,

@@ -3,19 +3,7 @@ use mathlib.Core.Logic.{◌⊎◌, inl, inr, ⊎_elim}
 use Rattle.exact.specs.Fraction.{Fraction, ◌⊖◌, ◌·◌, ◌≼◌, ◌≺◌, Proper}
 use Rattle.exact.specs.Rooted.{Rooted, ◌⊞◌, ◌⊙◌, square, ◌≼√◌, ◌√≼◌, over, squared, Defined, Same}
 use Rattle.exact.proofs.Order.{≼_trans, ≼-or-≺, ≺→≼, ≈→≼, ≈→≽, ≈-sym}
-use Rattle.exact.proofs.Arithmetic.{
-  ·-proper,
-  ⊕-proper,
-  ⊖-proper,
-  ⊖-left,
-  nonneg-of-≼,
-  ⊖-flip,
-  ⊖-unflip,
-  sq-≼,
-  sq-≼⁻¹,
-  sq-cong,
-  whole-proper,
-}
+use Rattle.exact.proofs.Arithmetic.{·-proper, ⊕-proper, ⊖-proper, ⊖-left, nonneg-of-≼, ⊖-flip, ⊖-unflip, sq-≼, sq-≼⁻¹, sq-cong}
 
 pub square-proper : {e : Rooted} → Defined e → Proper (square e)
 unfolding square

@@ -9,7 +9,7 @@ use lib.Dec.{leb}
 use borrow.Author.Tests.{leb-true, leb-false}
 use Rattle.exact.specs.Fraction.{Fraction, ◌//◌, whole, ◌≼◌, Proper}
 use Rattle.exact.specs.Rooted.{Rooted, ◌≼√◌, ◌√≼◌, Defined, Same}
-use Rattle.exact.specs.Number.{Every, none, also, Some, this, Exact, only, Sound, AtMost, AtLeast, Least, greater}
+use Rattle.exact.specs.Number.{Every, none, also, Some, this, later, Exact, only, Sound, AtMost, AtLeast, Least, greater}
 use Rattle.exact.proofs.Arithmetic.{whole-proper}
 use Rattle.exact.proofs.Compare.{√-ordered, √-comparable, √-down, √-up, same-sym, above_same}
 use Rattle.exact.proofs.Lists.{every-join, every-left, every-right, every-or-some, both-every, both_some, some-only}
@@ -30,6 +30,7 @@ only-at-most {x} {v} h = go h.some
   where
     go : Some (λ u. x ≼√ u) (v ∷ []) → x ≼√ v
     go (this p) = p
+    go (later p) = elim p [ ]
 
 module _ {x : Fraction} where
   pub at-least-only : {v : Rooted} → v √≼ x → AtLeast (only v) x

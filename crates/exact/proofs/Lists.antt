@@ -44,6 +44,7 @@ module _ {A : Type 0} {P Q R : A → Type 0} (f : (a : A) → P a → Q a → R 
   pub both_some : {l : List A} → Every P l → Some Q l → Some R l
   both_some (also p ps) (this q) = this (f _ p q)
   both_some (also p ps) (later q) = later (both_some ps q)
+  both_some none q = elim q [ ]
 
 -- what follows of every element, and of some
 module _ {A : Type 0} {P Q : A → Type 0} (f : (a : A) → P a → Q a) where

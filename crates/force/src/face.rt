@@ -10,7 +10,7 @@ use model::{Areas, Legs};
 use wide::U128;
 
 // What stands under the root of c_p, times (face_den / A_u)², in two factors.
-#[derive(Drop)]
+#[derive(Clone, Copy)]
 pub struct Root {
     pub open: u64,
     pub linear: u64,

@@ -1,4 +1,6 @@
 // The wind force on a section: the least whole number of newtons that is not below document 01's exact force.
+#![tactic(auto)]
+
 mod face;
 mod incidence;
 mod least;
@@ -10,7 +12,7 @@ use units::Force;
 use wide::U128;
 
 // What a section's row says of the section alone.
-#[derive(Drop)]
+#[derive(Clone, Copy)]
 pub struct Load {
     pub areas: Areas,
     pub force: Force,
@@ -19,7 +21,7 @@ pub struct Load {
 // What the force on a face takes neither from direction nor from pressure nor from items, as whole numbers: the sum
 // c_f A_f + c_c A_c + 1.9 A_p in millionths of mm², what it is divided by, and bounds of the sum less its root, where
 // these are known.
-#[derive(Drop)]
+#[derive(Clone, Copy)]
 pub struct PreparedFace {
     pub sum: U128,
     pub divisor: U128,
@@ -29,7 +31,7 @@ pub struct PreparedFace {
 }
 
 // What the exact force is worked out from: the sum and the divisor, and Kθ as a whole number.
-#[derive(Drop)]
+#[derive(Clone, Copy)]
 pub struct Terms {
     pub incidence: u64,
     pub face: U128,
@@ -38,7 +40,7 @@ pub struct Terms {
 
 // What decided a force: that there is no pressure; bounds of the force; an exact comparison beside a whole number,
 // where there is no root; or one by squares.
-#[derive(Drop)]
+#[derive(Clone, Copy)]
 pub enum Way {
     NoPressure,
     Bounds,
@@ -46,13 +48,13 @@ pub enum Way {
     Squares,
 }
 
-#[derive(Drop)]
+#[derive(Clone, Copy)]
 pub struct DecidedForce {
     pub force: Force,
     pub way: Way,
 }
 
-#[derive(Drop)]
+#[derive(Clone, Copy)]
 pub struct DecidedLoad {
     pub load: Load,
     pub way: Way,

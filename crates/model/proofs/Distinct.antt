@@ -1,6 +1,6 @@
 -- Lists of items in which no number comes twice.
 use Prim.Native.Nat.{ℕ}
-use mathlib.Core.Path.{◌≡◌, refl, ap, sym, ◌∙◌}
+use mathlib.Core.Path.{◌≡◌, refl, ap, ap₂, sym, ◌∙◌}
 use mathlib.Core.Bool.{Bool, true, false, not, ◌&&◌, ◌||◌}
 use mathlib.Core.List.{List, [], ◌∷◌, ◌++◌, append_assoc, Permᴰ}
 use lib.Dec.{eqb}
@@ -52,9 +52,7 @@ new-number l it m h =
 pub distinct-perm : {xs ys : List Item} → Permᴰ xs ys → distinct xs ≡ distinct ys
 distinct-perm Permᴰ.nil = refl
 distinct-perm (Permᴰ.cons {b = b} e d) = rw (e, any-perm (λ (it : Item). eqb it.number b.number) d, distinct-perm d)
-distinct-perm (Permᴰ.swap {a = a} {b = b} {l = l} e f) =
-    rw (← e, ← f, eqb-sym b.number a.number)
-    (swapped (eqb a.number b.number) (numbered a.number l) (numbered b.number l) (distinct l))
+distinct-perm (Permᴰ.swap {a = a} {b = b} {l = l} e f) = turned ∙ ap₂ (λ (x y : Item). distinct (x ∷ y ∷ l)) f e
   where
     swapped : (same in-a in_b d : Bool) → (not (same || in-a) && (not in_b && d)) ≡ (not (same || in_b) && (not in-a && d))
     swapped true in-a in_b d = refl
@@ -62,6 +60,11 @@ distinct-perm (Permᴰ.swap {a = a} {b = b} {l = l} e f) =
     swapped false true false d = refl
     swapped false false true d = refl
     swapped false false false d = refl
+
+    turned : distinct (a ∷ b ∷ l) ≡ distinct (b ∷ a ∷ l)
+    turned =
+        rw (eqb-sym b.number a.number)
+        (swapped (eqb a.number b.number) (numbered a.number l) (numbered b.number l) (distinct l))
 distinct-perm (Permᴰ.trans c d) = distinct-perm c ∙ distinct-perm d
 
 -- the items that a test keeps

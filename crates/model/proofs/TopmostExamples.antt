@@ -1,5 +1,5 @@
 -- The examples of the topmost section over: forces and shears by computing, and the rest from them.
-use Prim.Native.Nat.{ℕ, ◌+◌, ◌<◌}
+use Prim.Native.Nat.{ℕ, ◌+◌}
 use mathlib.Core.Path.{◌≡◌, refl, ap}
 use mathlib.Core.Bool.{Bool}
 use native.Mathlib.Omega.{arith}

@@ -1,6 +1,6 @@
 -- Items of their type, field by field.
-use Prim.Native.Nat.{ℕ, ◌^◌, ◌<◌}
-use mathlib.Core.Path.{◌≡◌, refl}
+use Prim.Native.Nat.{◌^◌, ◌<◌}
+use mathlib.Core.Path.{◌≡◌}
 use mathlib.Core.Bool.{true}
 use borrow.Author.Tests.{lt-ltb, ltb-true}
 use Rattle.exact.proofs.Bools.{and_split}

@@ -1,40 +1,42 @@
 // Document 01's tower as programs hold it: what the calls take, keep and answer. specs/ has all of document 01 as definitions
 // and says what each of these types means there; proofs/ has their laws.
+#![tactic(auto)]
+
 use units::{Area, Force, Length};
 
 pub mod numbers;
 pub mod ranges;
 
 // Numbers from low to high.
-#[derive(Drop)]
+#[derive(Clone, Copy)]
 pub struct Range {
     pub low: u32,
     pub high: u32,
 }
 
 // The legs of the tower; it has as many equal faces.
-#[derive(Drop)]
+#[derive(Clone, Copy)]
 pub enum Legs {
     Three,
     Four,
 }
 
 // A member of a face: flat with a width, or round with a diameter.
-#[derive(Drop)]
+#[derive(Clone, Copy)]
 pub enum Member {
     Flat(Length),
     Round(Length),
 }
 
 // Members of one kind and size, and their total length in one face.
-#[derive(Drop)]
+#[derive(Clone, Copy)]
 pub struct Group {
     pub member: Member,
     pub length: Length,
 }
 
 // A section: mean width b, height h, shear allowance (0: none is stated), and its first `count` groups.
-#[derive(Drop)]
+#[derive(Clone, Copy)]
 pub struct Section {
     pub width: Length,
     pub height: Length,
@@ -44,7 +46,7 @@ pub struct Section {
 }
 
 // An ancillary item: its number, the section that it hangs on, its size, and its coefficients and position factor K in thousandths.
-#[derive(Drop)]
+#[derive(Clone, Copy)]
 pub struct Item {
     pub number: u16,
     pub section: u8,
@@ -56,7 +58,7 @@ pub struct Item {
 }
 
 // Legs, the first `count` sections from the top, and the first `held` items in hanging order.
-#[derive(Drop)]
+#[derive(Clone, Copy)]
 pub struct Tower {
     pub legs: Legs,
     pub count: usize,
@@ -66,7 +68,7 @@ pub struct Tower {
 }
 
 // The flow class of a member under a pressure.
-#[derive(Drop)]
+#[derive(Clone, Copy)]
 pub enum Flow {
     Flat,
     Subcritical,
@@ -74,7 +76,7 @@ pub enum Flow {
 }
 
 // A_f, A_c and A_p of a section's face.
-#[derive(Drop)]
+#[derive(Clone, Copy)]
 pub struct Areas {
     pub flat: Area,
     pub subcritical: Area,
@@ -82,7 +84,7 @@ pub struct Areas {
 }
 
 // Why a call is turned down. specs/Answers gives each its number in document 01.
-#[derive(Drop)]
+#[derive(Clone, Copy)]
 pub enum Refusal {
     NoTower,
     FileEnds,
@@ -109,14 +111,14 @@ pub enum Refusal {
 }
 
 // The answer of erect, hang, take down, wind and report.
-#[derive(Drop)]
+#[derive(Clone, Copy)]
 pub enum Answer {
     Accepted,
     Refused(Refusal),
 }
 
 // The answer of check: the topmost section over its allowance, or that none is.
-#[derive(Drop)]
+#[derive(Clone, Copy)]
 pub enum CheckAnswer {
     Over(usize),
     NoneOver,
@@ -124,7 +126,7 @@ pub enum CheckAnswer {
 }
 
 // The answer of write: the length of the file.
-#[derive(Drop)]
+#[derive(Clone, Copy)]
 pub enum WriteAnswer {
     Written(usize),
     Refused(Refusal),

@@ -1,17 +1,18 @@
 // The quantities of document 01. Each is a type of its own, so that an area is never added to a length.
+#![tactic(auto)]
 
 // Millimetres.
-#[derive(Drop)]
+#[derive(Clone, Copy)]
 pub struct Length(pub u32);
 
 // Square millimetres.
-#[derive(Drop)]
+#[derive(Clone, Copy)]
 pub struct Area(pub u64);
 
 // Newtons.
-#[derive(Drop)]
+#[derive(Clone, Copy)]
 pub struct Force(pub u64);
 
 // Newton millimetres.
-#[derive(Drop)]
+#[derive(Clone, Copy)]
 pub struct Moment(pub u64);
