@@ -12,7 +12,7 @@ use model::{Item, Range};
 use units::Length;
 
 // How many sections and items a tower has.
-#[derive(Drop)]
+#[derive(Clone, Copy)]
 struct Extent {
     sections: u64,
     items: u64,

@@ -2,3 +2,4 @@ pub mod Numbers
 pub mod Text
 pub mod Hex
 pub mod Digest
+pub mod Scan

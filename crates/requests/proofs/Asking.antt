@@ -1,13 +1,12 @@
 -- What a line asks for, by the tests on its words.
 use Prim.Native.Nat.{ℕ, ◌+◌, ◌-◌, ◌≤◌, ◌<◌}
 use mathlib.Core.Path.{◌≡◌, refl, ap, sym, ◌∙◌}
-use mathlib.Core.Bool.{Bool, true, false, cond}
-use mathlib.Core.List.{List, [], ◌∷◌, ◌++◌}
+use mathlib.Core.List.{List, [], ◌∷◌}
 use native.Mathlib.Omega.{arith}
 use lib.ListN.{length, take, drop, length-append, length-drop}
 use lib.Seq.{take_all}
 use borrow.Author.Tests.{lt-ltb, le-ltb}
-use Rattle.bytes.specs.Bytes.{index_of, slice}
+use Rattle.lines.specs.Scan.{index_of}
 use Rattle.lines.specs.declared.Count.{Count}
 use Rattle.lines.specs.declared.Count.TheVariants as count
 use Rattle.lines.specs.Numbers.{Reading, between, inside, bad, large, many, read_to, count_of, numbers_of, Counted}
@@ -90,20 +89,20 @@ module _ (room : Room) (line : List ℕ) where
   unfolding asked_in
   line-long h = rw (lt-ltb 6006 (length line) h)
 
-  module _ (short : length line ≤ 6006) {n : ℕ} (found : (n ≡ 0 + index_of 32 (slice 0 (length line) line)) × (n ≤ length line)) {w : Word} (word : w ≡ word_of (take (n - 0) line)) where
+  module _ (short : length line ≤ 6006) {n : ℕ} (found : n ≡ 0 + index_of 32 (take (length line - 0) (drop 0 line))) {w : Word} (word : w ≡ word_of (take (n - 0) line)) where
     line-with : asked_in room line ≡ asked_with room w (rest_of line)
     unfolding asked_in
     line-with =
         let e : n - 0 ≡ n = omega arith in
         let word : w ≡ word_of (take n line) = rw e at word in
         rw (le-ltb 6006 (length line) short)
-        (ap (λ (v : Word). asked_with room v (rest_of line)) (sym (word ∙ ap word_of (word-is line found.0))))
+        (ap (λ (v : Word). asked_with room v (rest_of line)) (sym (word ∙ ap word_of (word-is line found))))
 
     pub line_word : length line ≤ n → asked_in room line ≡ asked_alone room w
-    line_word h = line-with ∙ ap (asked_with room w) (no-rest line found.0 h)
+    line_word h = line-with ∙ ap (asked_with room w) (no-rest line found h)
 
     -- the rest is handed on as a part of the line, up to its end
     pub line-text : n < length line → asked_in room line ≡ asked_text room w (take (length line - (n + 1)) (drop (n + 1) line))
     line-text h =
         let l : length (drop (n + 1) line) ≤ length line - (n + 1) = simp length-drop (omega arith) in
-        line-with ∙ ap (asked_with room w) (rest-is line found.0 h) ∙ ap (asked_text room w) (sym (take_all _ (drop (n + 1) line) l))
+        line-with ∙ ap (asked_with room w) (rest-is line found h) ∙ ap (asked_text room w) (sym (take_all _ (drop (n + 1) line) l))

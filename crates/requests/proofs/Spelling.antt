@@ -1,5 +1,5 @@
 -- The first word of a line, by comparing bytes.
-use Prim.Native.Nat.{ℕ, ◌+◌, ◌≤◌, ◌<◌}
+use Prim.Native.Nat.{ℕ, ◌+◌, ◌-◌, ◌≤◌, ◌<◌}
 use mathlib.Core.Path.{◌≡◌, refl, ap, sym, subst, ◌∙◌}
 use mathlib.Core.Bool.{Bool, true, false}
 use mathlib.Core.List.{List, [], ◌∷◌}
@@ -10,8 +10,7 @@ use lib.ListN.{length, take, drop}
 use lib.Seq.{take_all}
 use borrow.Author.Tests.{lt-ltb, le-ltb, eqb-true, eq-eqb}
 use Rattle.exact.proofs.Bools.{clash, and_split, and-join}
-use Rattle.bytes.specs.Bytes.{index_of, slice}
-use Rattle.requests.specs.declared.Word.{Word}
+use Rattle.lines.specs.Scan.{index_of}
 use Rattle.requests.specs.Words.{first_word, rest_of, same_bytes}
 
 same_true : (l m : List ℕ) → same_bytes l m ≡ true → l ≡ m
@@ -46,12 +45,12 @@ module _ {r : Bool} {w v : List ℕ} (c : Compared r w v) where
       go false e = refl
 
 -- the first space of a line
-module _ (line : List ℕ) {n : ℕ} (found : n ≡ 0 + index_of 32 (slice 0 (length line) line)) where
+module _ (line : List ℕ) {n : ℕ} (found : n ≡ 0 + index_of 32 (take (length line - 0) (drop 0 line))) where
   at-space : n ≡ index_of 32 line
-  unfolding slice
   at-space =
+      let a : length line - 0 ≡ length line = omega arith in
       let e : take (length line) line ≡ line = take_all (length line) line (omega arith) in
-      let f : n ≡ 0 + index_of 32 line = rw e at found in
+      let f : n ≡ 0 + index_of 32 line = rw (a, e) at found in
       omega arith
 
   pub word-is : take n line ≡ first_word line

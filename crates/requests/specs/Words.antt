@@ -1,7 +1,7 @@
 -- The first word of a line, and what follows it.
 use Rattle.std.specs.Prelude.{ℕ, ◌+◌, Bool, true, false, cond, ◌&&◌, List, [], ◌∷◌, ltb, eqb, length, take, drop}
 use Rattle.std.proofs.Math.Option.{Option, none, some}
-use Rattle.bytes.specs.Bytes.{index_of}
+use Rattle.lines.specs.Scan.{index_of}
 use Rattle.lines.specs.Text.{ascii}
 use Rattle.requests.specs.declared.Word.{Word}
 use Rattle.requests.specs.declared.Word.TheVariants as word

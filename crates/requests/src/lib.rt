@@ -1,11 +1,13 @@
 // A line of text as a request: which it is, and its arguments.
+#![tactic(auto)]
+
 use replies::Fault;
 
 pub mod line;
 mod words;
 
 // The requests whose arguments are numbers.
-#[derive(Drop)]
+#[derive(Clone, Copy)]
 pub enum Verb {
     Hang,
     TakeDown,
@@ -17,7 +19,7 @@ pub enum Verb {
 }
 
 // The first word of a line.
-#[derive(Drop)]
+#[derive(Clone, Copy)]
 pub(crate) enum Word {
     Numbered(Verb),
     Erect,
@@ -25,7 +27,7 @@ pub(crate) enum Word {
 }
 
 // A request with so many numbers, an erect with a file of so many bytes, or what is wrong with the line.
-#[derive(Drop)]
+#[derive(Clone, Copy)]
 pub enum Request {
     Numbered(Verb, usize),
     Erect(usize),

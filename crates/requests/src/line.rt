@@ -5,9 +5,9 @@ ghost use Rattle.requests.specs.Decoded.{Decoded, DecodedNumbers, DecodedBytes, 
 
 use crate::words::word_of;
 use crate::{Request, Verb, Word};
-use bytes::scan::find;
 use lines::hex::read_hex;
 use lines::numbers::numbers_of;
+use lines::scan::find;
 use lines::{Count, HexCount};
 use replies::Fault;
 

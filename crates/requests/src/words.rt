@@ -3,7 +3,7 @@ ghost use Rattle.std.specs.Prelude.{◌≡◌};
 ghost use Rattle.requests.specs.Words.{word_of};
 
 use crate::{Verb, Word};
-use check::same;
+use lines::scan::same;
 
 pub(crate) fn word_of(word: &[u8]) -> Word
     ensures { result ≡ word_of word.now }

@@ -28,6 +28,7 @@ use Rattle.tower_file.specs.Stored.{filed_as}
 use Rattle.tower_file.specs.Written.{WritesFile}
 use contract.Lifetimes.{Lfts}
 use denote.Ref.{Bor}
+use denote.MutBor.{MutBor}
 use Rattle.model.proofs.Says.{write-length, write-room}
 use Rattle.model.proofs.Accepted.{accepted-valid, same_bytes, accepted-length}
 use Rattle.model.proofs.RoundTrips.{same-tower}
@@ -39,7 +40,7 @@ abbrev pub Read : Lfts 1 → Bor (List ℕ) → FileRead → Type 0
 Read κ file r = read-reads.Post κ (file, tt) r (file, tt)
 
 -- `write` was given a tower and lent out, handed back r and left after
-abbrev pub Wrote : Lfts 1 → stored.Tower → Bor (List ℕ) → WriteAnswer → Bor (List ℕ) → Type 0
+abbrev pub Wrote : Lfts 1 → stored.Tower → MutBor (List ℕ) → WriteAnswer → MutBor (List ℕ) → Type 0
 Wrote κ t out r after = write-reads.Post κ (t, (out, tt)) r (t, (after, tt))
 
 -- where there is room, the file is written, and its length answered
@@ -77,7 +78,7 @@ module _ (κ : Lfts 1) (file : Bor (List ℕ)) (typed : all_of (bits 8) file.now
   read-file = same_bytes file.now typed h.tower
 
   -- and written again it has the same bytes, wherever there is room
-  pub read-written : (κ' : Lfts 1) (out after : Bor (List ℕ)) {r : WriteAnswer} → length file.now ≤ length out.now → Wrote κ' t out r after
+  pub read-written : (κ' : Lfts 1) (out after : MutBor (List ℕ)) {r : WriteAnswer} → length file.now ≤ length out.now → Wrote κ' t out r after
       → (r ≡ write.Written (length file.now)) × (after.now ≡ file.now ++ drop (length file.now) out.now)
   read-written κ' out after {r} room w =
       subst
@@ -87,7 +88,7 @@ module _ (κ : Lfts 1) (file : Bor (List ℕ)) (typed : all_of (bits 8) file.now
       room
 
 -- a valid tower that was written is read again, from just the bytes that write counts: the same legs, sections and items
-pub written_read : (κ κ' : Lfts 1) (t : stored.Tower) (out after file : Bor (List ℕ)) {n : ℕ} {r : FileRead} → ValidTower (tower_of t)
+pub written_read : (κ κ' : Lfts 1) (t : stored.Tower) (out after : MutBor (List ℕ)) (file : Bor (List ℕ)) {n : ℕ} {r : FileRead} → ValidTower (tower_of t)
     → Wrote κ t out (write.Written n) after → file.now ≡ take n after.now → Read κ' file r
     → (r.answer ≡ answer.Accepted) × (tower_of r.tower ≡ tower_of t)
 written_read κ κ' t out after file {n} {r} v w e h =
