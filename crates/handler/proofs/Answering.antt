@@ -1,19 +1,18 @@
 -- The ways out of report, check and write.
-use Prim.Native.Nat.{ℕ, ◌+◌, ◌*◌, ◌≤◌}
+use Prim.Native.Nat.{ℕ, ◌*◌}
 use mathlib.Core.Path.{◌≡◌, refl, ap, sym, subst, ◌∙◌}
-use mathlib.Core.Bool.{Bool, true, false, cond}
-use mathlib.Core.List.{List, [], ◌∷◌, ◌++◌, append_assoc}
+use mathlib.Core.Bool.{Bool, true, false}
+use mathlib.Core.List.{List, [], ◌++◌, append_assoc}
 use mathlib.Core.Option.{none, some}
 use native.Mathlib.Omega.{arith}
 use lib.ListN.{length, take, drop, length-append}
 use lib.Seq.{take_at}
 use Rattle.model.specs.declared.Answer.TheVariants as answer
-use Rattle.model.specs.declared.CheckAnswer.{CheckAnswer}
 use Rattle.model.specs.declared.CheckAnswer.TheVariants as check-answer
 use Rattle.model.specs.declared.WriteAnswer.TheVariants as write-answer
 use Rattle.model.specs.declared.Refusal.{Refusal}
-use Rattle.model.specs.Answers.{Reply, accepts, refuses, refusal_number, answer_reply, check_reply, write_reply}
-use Rattle.model.specs.Machine.{State, no_tower, standing, filled, report_refusal, rows_in, check_refusal, over_in, write_refusal, file_in}
+use Rattle.model.specs.Answers.{Reply, accepts, refusal_number, answer_reply, check_reply, write_reply}
+use Rattle.model.specs.Machine.{State, no_tower, standing, filled, report_refusal, rows_in, check_refusal, write_refusal, file_in}
 use Rattle.model.specs.Calls as call
 use Rattle.model.specs.Calls.{reply_of}
 use Rattle.model.proofs.Says.{accepted-reply, write-length}
@@ -21,7 +20,6 @@ use Rattle.model.proofs.Rows.{length-rows}
 use Rattle.slots.specs.Held.{Slots, is_standing, count_in, state_of}
 use Rattle.slots.specs.Promises.{Meets}
 use Rattle.slots.proofs.Grounds.{standing-as, fallen, section-count}
-use Rattle.replies.specs.declared.Message.{Message}
 use Rattle.replies.specs.declared.Message.TheVariants as message
 use Rattle.replies.specs.MessageText.{message_text, rows_text, count_text, report_text, file_text}
 use Rattle.replies.proofs.Rows.{rows-first}

@@ -1,13 +1,12 @@
 -- What a request asks for, by the tests on its numbers.
-use Prim.Native.Nat.{ℕ, zero, suc, ◌+◌, ◌≤◌, ◌<◌, min}
+use Prim.Native.Nat.{ℕ, ◌≤◌, ◌<◌}
 use mathlib.Core.Path.{◌≡◌, refl, ap, sym, ◌∙◌}
-use mathlib.Core.Bool.{Bool, true, false, cond}
-use mathlib.Core.List.{List, [], ◌∷◌, ◌++◌}
+use mathlib.Core.Bool.{true, false}
+use mathlib.Core.List.{List, [], ◌∷◌}
 use native.Mathlib.Omega.{arith}
 use lib.ListN.{length, get_or}
 use borrow.Author.Tests.{lt-ltb, le-ltb}
-use Rattle.model.specs.Calls.{Call, erect, hang, take_down, wind, check, bits, typed, typed_item, typed_wind}
-use Rattle.replies.specs.declared.Fault.{Fault}
+use Rattle.model.specs.Calls.{Call, hang, take_down, wind, check, bits, typed, typed_item, typed_wind}
 use Rattle.replies.specs.declared.Fault.TheVariants as fault
 use Rattle.requests.specs.declared.Verb.{Verb}
 use Rattle.requests.specs.Asked.{

@@ -17,7 +17,7 @@ use Rattle.model.proofs.Refused.{refused-state}
 use Rattle.lines.specs.Text.{ascii, decimal_by, decimal}
 use Rattle.lines.specs.Hex.{all_hex, pairs, bytes_in}
 use Rattle.lines.specs.Numbers.{read_to}
-use Rattle.bytes.specs.Bytes.{index_of}
+use Rattle.lines.specs.Scan.{index_of}
 use Rattle.requests.specs.Words.{first_word, rest_of, same_bytes, word_of}
 use Rattle.requests.specs.Asked.{called, Room, take_down_asked, erect_text, asked_by, numbers_text, asked_text, asked_in}
 use Rattle.requests.specs.Decoded.{room_of}
@@ -77,4 +77,4 @@ unfolding after_all
 after-lines s t = rw (erect-asked, down-asked) (refused-state (step no_tower (erect file)) (take_down 7) (λ z. omega (arith, down-refusal)))
 
 pub lent-own : (numbers rows file out : List ℕ) → Lent (room_of (length numbers) (length rows) (length file)) (length out) numbers rows file out
-lent-own numbers rows file out = record { numbers = refl; rows = refl; file = refl; out = refl }
+lent-own _ _ _ _ = record { numbers = refl; rows = refl; file = refl; out = refl }

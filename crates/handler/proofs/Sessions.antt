@@ -1,10 +1,11 @@
 -- Lists of lines, answered one after the other. A link is the contract of `respond`: `Post` of the module `Reads` that the check makes of it.
-use Prim.Native.Nat.{ℕ, ◌+◌, ◌≤◌}
-use mathlib.Core.Path.{◌≡◌, refl, ap, sym, subst, ◌∙◌}
+use Prim.Native.Nat.{ℕ, ◌≤◌}
+use mathlib.Core.Path.{◌≡◌, ap, subst, ◌∙◌}
 use mathlib.Core.List.{List, [], ◌∷◌}
 use native.Mathlib.Omega.{arith}
 use lib.ListN.{length, take}
 use contract.Lifetimes.{Lfts}
+use denote.MutBor.{MutBor}
 use denote.Ref.{Bor}
 use Rattle.model.specs.Machine.{State, no_tower}
 use Rattle.lines.specs.Text.{Puts}
@@ -38,14 +39,14 @@ put_whole p e h = (p.put (omega (arith, e))).1
 -- each line is answered in the state that the last one left
 pub data Session (room : Room) (most : ℕ) : Slots → List Exchange → Slots → Type 0 where
   ended : {s : Slots} → Session room most s [] s
-  answered : (κ : Lfts 6) (s next : Bor Slots) {s' : Slots} (line numbers rows file out numbers₁ rows₁ file₁ out₁ : Bor (List ℕ)) {n : ℕ}
-      {es : List Exchange} → Lent room most numbers.now rows.now file.now out.now
+  answered : (κ : Lfts 6) (s next : MutBor Slots) {s' : Slots} (line : Bor (List ℕ)) (numbers rows file out numbers₁ rows₁ file₁ out₁ : MutBor (List ℕ))
+      {n : ℕ} {es : List Exchange} → Lent room most numbers.now rows.now file.now out.now
       → respond-reads.Post κ (s, (line, (numbers, (rows, (file, (out, tt)))))) n (next, (line, (numbers₁, (rows₁, (file₁, (out₁, tt))))))
       → Session room most next.now es s' → Session room most s.now (record { line = line.now; text = take n out₁.now } ∷ es) s'
 
 -- in a line's link, what stands for the sizes of the slices is the room
-link-responds : (κ : Lfts 6) {room : Room} {most : ℕ} (s next : Bor Slots) (line numbers rows file out numbers₁ rows₁ file₁ out₁ : Bor (List ℕ)) {n : ℕ}
-    → Lent room most numbers.now rows.now file.now out.now
+link-responds : (κ : Lfts 6) {room : Room} {most : ℕ} (s next : MutBor Slots) (line : Bor (List ℕ))
+    (numbers rows file out numbers₁ rows₁ file₁ out₁ : MutBor (List ℕ)) {n : ℕ} → Lent room most numbers.now rows.now file.now out.now
     → respond-reads.Post κ (s, (line, (numbers, (rows, (file, (out, tt)))))) n (next, (line, (numbers₁, (rows₁, (file₁, (out₁, tt))))))
     → Responds (asked_in room line.now) s.now next.now out.now out₁.now n
 link-responds κ s next line numbers rows file out numbers₁ rows₁ file₁ out₁ {n} l p =

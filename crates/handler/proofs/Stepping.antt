@@ -10,7 +10,7 @@ use Rattle.model.specs.declared.Answer.TheVariants as answer
 use Rattle.model.specs.declared.Refusal.{Refusal}
 use Rattle.model.specs.Answers.{Reply, refusal_number, answer_reply}
 use Rattle.model.specs.Machine.{State}
-use Rattle.model.specs.Calls.{Call, refusal_of, reply_of}
+use Rattle.model.specs.Calls.{Call, reply_of}
 use Rattle.model.proofs.Says.{refusal-positive}
 use Rattle.slots.specs.Held.{Slots, state_of}
 use Rattle.slots.specs.Promises.{Meets}

@@ -1,4 +1,6 @@
 // The service behind the requests: what a line does to the state, and what is printed for it.
+#![tactic(auto)]
+
 mod answers;
 mod arguments;
 mod changes;

@@ -8,6 +8,7 @@ use lib.Dec.{eqb}
 use lib.ListN.{length, drop}
 use contract.Lifetimes.{Lfts}
 use denote.Ref.{Bor}
+use denote.MutBor.{MutBor}
 use Rattle.model.specs.Lists.{joined}
 use Rattle.model.specs.Bytes.{bytes}
 use Rattle.model.specs.Machine.{State, no_tower, rows_in}
@@ -21,11 +22,11 @@ use Rattle.host.proofs.dembyhai_report.Reads as host-reads
 none_first : (m : State) (c : Call) (cs : List Call) → refusal_of m c ≡ 0 → first_refusal (step m c) cs ≡ 0 → first_refusal m (c ∷ cs) ≡ 0
 none_first m c cs z h = subst (λ (n : ℕ). cond (eqb n 0) (first_refusal (step m c) cs) n ≡ 0) (sym z) h
 
-abbrev pub Called : Lfts 3 → Bor (List ℕ) → ℕ → ℕ → ℕ → Bor (List ℕ) → Bor (List ℕ) → ℕ → Bor (List ℕ) → Type 0
+abbrev pub Called : Lfts 3 → Bor (List ℕ) → ℕ → ℕ → ℕ → Bor (List ℕ) → MutBor (List ℕ) → ℕ → MutBor (List ℕ) → Type 0
 Called κ file k ice factor ps rows r after =
     host-reads.Post κ (file, (k, (ice, (factor, (ps, (rows, tt)))))) r (file, (k, (ice, (factor, (ps, (after, tt))))))
 
-module _ (κ : Lfts 3) (file : Bor (List ℕ)) (k ice factor : ℕ) (ps rows after : Bor (List ℕ)) {r : ℕ} (h : Called κ file k ice factor ps rows r after) where
+module _ (κ : Lfts 3) (file : Bor (List ℕ)) (k ice factor : ℕ) (ps : Bor (List ℕ)) (rows after : MutBor (List ℕ)) {r : ℕ} (h : Called κ file k ice factor ps rows r after) where
   -- on a refusal no byte changes
   pub host-untouched : (r ≡ 0 → ⊥) → after.now ≡ rows.now
   host-untouched n = h.rows ∙ host-out-refused file.now k ice factor ps.now rows.now (λ z. n (h.answer ∙ z))

@@ -1,4 +1,6 @@
 // Document 01's call for a host program in C: erect, wind and report from fresh.
+#![tactic(auto)]
+
 mod pressure_bytes;
 mod row_bytes;
 

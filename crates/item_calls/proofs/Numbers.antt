@@ -1,6 +1,6 @@
 -- The numbers of the items in slots.
 use Prim.Native.Nat.{ℕ, ◌+◌, ◌%◌, ◌≤◌, ◌<◌}
-use mathlib.Core.Path.{◌≡◌, refl, ap, ◌∙◌}
+use mathlib.Core.Path.{◌≡◌, refl, ap, sym, ◌∙◌}
 use mathlib.Core.Bool.{Bool, true, false, not, cond, ◌||◌}
 use mathlib.Core.List.{List, [], ◌∷◌, map}
 use native.Mathlib.Omega.{arith}
@@ -11,7 +11,7 @@ use Rattle.model.specs.Lists.{kept, any_of}
 use Rattle.model.specs.File.{numbered, fields_in_range}
 use Rattle.model.specs.Machine.{without}
 use Rattle.model.proofs.Lists.{any-more, any-holds}
-use Rattle.slots.specs.Held.{Slots, slot, item_in, no_force, item_of}
+use Rattle.slots.specs.Held.{Slots, slot, held_in, item_in, no_force, item_of, items_to, items_in}
 use Rattle.item_calls.specs.Places.{has_number}
 
 number-kept : (b : Bool) (r : List ℕ) → (cond b (item_in r) (no_force (item_in r))).number ≡ get_or r 0 0 % 65_536
@@ -48,3 +48,8 @@ module _ (l : Slots) (long : length l ≡ 129) where
 
   pub has-it : (n k i : ℕ) → i < k → k ≤ 64 → has_number n (slot l (65 + i)) ≡ true → any_of (has_number n) (take k (drop 65 l)) ≡ true
   has-it n k i h g e = any-holds (has_number n) (drop 65 l) k i [] h (omega (arith, items-long)) (rw (get_or-drop 65 l i) e)
+
+-- whether a number is held, by the number of items that was read
+pub told : (l : Slots) (number : ℕ) {n : ℕ} {r x : Bool} → n ≡ held_in l → r ≡ numbered number (items_to l n) → r ≡ x
+    → numbered number (items_in l) ≡ x
+told l number e f g = ap (λ (m : ℕ). numbered number (items_to l m)) (sym e) ∙ sym f ∙ g

@@ -1,3 +1,5 @@
 // Hang and take down, on slots that the caller lends.
+#![tactic(auto)]
+
 pub mod hang;
 pub mod take_down;

@@ -1,5 +1,7 @@
 // The rows of document 01's report for the tower and the wind that stand in lent slots, and the check of its shears
 // against the allowances.
+#![tactic(auto)]
+
 use force::Load;
 use model::Legs;
 use units::{Force, Length, Moment};
@@ -9,7 +11,7 @@ mod loads;
 pub mod table;
 
 // What the loads on all sections share: the legs, and the wind's direction, ice and structure factor.
-#[derive(Drop)]
+#[derive(Clone, Copy)]
 pub(crate) struct LoadCase {
     pub legs: Legs,
     pub direction: u32,
@@ -18,7 +20,7 @@ pub(crate) struct LoadCase {
 }
 
 // The load on a section, with the section's height and allowance.
-#[derive(Drop)]
+#[derive(Clone, Copy)]
 pub(crate) struct SectionLoad {
     pub load: Load,
     pub height: Length,
@@ -26,7 +28,7 @@ pub(crate) struct SectionLoad {
 }
 
 // Shear and moment at the foot of a section.
-#[derive(Drop)]
+#[derive(Clone, Copy)]
 pub(crate) struct Foot {
     pub shear: Force,
     pub moment: Moment,

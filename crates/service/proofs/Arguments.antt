@@ -4,7 +4,7 @@ use mathlib.Core.Bool.{Bool}
 use mathlib.Core.List.{List, [], ◌∷◌}
 use lib.Dec.{ltb}
 use lib.ListN.{get_or}
-use mir.Syntax.{Ty, ty_int, ty_bool, ty_float, ty_ptr, ty_ref, ty_array, ty_unit, ty_struct, ty_enum, ty_named}
+use mir.Syntax.{Ty, ty_int, ty_bool, ty_float, ty_ptr, ty_ref, ty_array, ty_unit, ty_struct, ty_enum, ty_param, ty_const, ty_array_p, ty_named}
 use mir.Val.{bits, WT}
 use contract.Lifetimes.{Lfts}
 use borrow.Fn.Kinds.{ParamKind, Dens}
@@ -22,7 +22,10 @@ width (ty_array τ n) = 0
 width ty_unit = 0
 width (ty_struct ν τs) = 0
 width (ty_enum ν τss) = 0
-width (ty_named h) = 0
+width (ty_param i) = 0
+width (ty_const n) = 0
+width (ty_array_p τ i) = 0
+width (ty_named h τs) = 0
 
 -- what a reference points at
 abbrev target : Ty → Ty
@@ -35,7 +38,10 @@ target (ty_array τ n) = ty_unit
 target ty_unit = ty_unit
 target (ty_struct ν τs) = ty_unit
 target (ty_enum ν τss) = ty_unit
-target (ty_named h) = ty_unit
+target (ty_param i) = ty_unit
+target (ty_const n) = ty_unit
+target (ty_array_p τ i) = ty_unit
+target (ty_named h τs) = ty_unit
 
 module _ {n : ℕ} where
   abbrev types : List (ParamKind n) → List Ty

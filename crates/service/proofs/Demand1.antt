@@ -1,8 +1,7 @@
 -- The customer's first demand, for each call on any state.
 use Prim.Native.Nat.{ℕ}
-use mathlib.Core.Path.{◌≡◌, refl, ap, ◌∙◌}
+use mathlib.Core.Path.{◌≡◌, refl, ◌∙◌}
 use mathlib.Core.Bool.{true}
-use Rattle.model.specs.Answers.{Reply}
 use Rattle.model.specs.Calls.{Call, refusal_of, step, reply_of, lent_before, lent_after}
 use Rattle.model.specs.Outcomes.{Outcome}
 use Rattle.model.proofs.Refused.{refused-lent}

@@ -16,9 +16,9 @@ use Rattle.model.specs.Reading.{Parsed, got, refused}
 use Rattle.model.specs.File.{read_file}
 use Rattle.model.specs.Bytes.{file_of}
 use Rattle.model.specs.Report.{row_at, rows_of, height_at, areas_at, force_at, arm, shear, moment}
-use Rattle.model.specs.Answers.{Reply, write_reply}
-use Rattle.model.specs.Machine.{State, standing, erected, erect_refusal, file_refusal, filled, no_tower, report_refusal}
-use Rattle.model.specs.Calls.{Call, report, erect, write, refusal_of, reply_of, lent_after}
+use Rattle.model.specs.Answers.{write_reply}
+use Rattle.model.specs.Machine.{standing, erected, erect_refusal, file_refusal, filled, no_tower, report_refusal}
+use Rattle.model.specs.Calls.{Call, report, erect, write}
 use Rattle.model.specs.Valid.{ValidState, none_standing}
 use Rattle.model.proofs.Forces.{refuse-none}
 use Rattle.model.proofs.Reached.{tower-in, run-valid}

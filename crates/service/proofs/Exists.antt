@@ -5,9 +5,10 @@ use mathlib.Core.Path.{◌≡◌, refl, ap, sym, subst, ◌∙◌}
 use mathlib.Core.Bool.{true, ◌&&◌, true≢false}
 use mathlib.Core.List.{List, [], ◌∷◌, Permᴰ}
 use mathlib.Core.Option.{none, some}
-use lib.ListN.{length, take}
+use lib.ListN.{take}
 use contract.Lifetimes.{Lfts}
 use denote.Ref.{Bor}
+use denote.MutBor.{MutBor}
 use Rattle.model.specs.declared.Answer.{Answer}
 use Rattle.model.specs.declared.Answer.TheVariants as answer
 use Rattle.model.specs.declared.CheckAnswer.{CheckAnswer}
@@ -15,7 +16,7 @@ use Rattle.model.specs.declared.CheckAnswer.TheVariants as check-answer
 use Rattle.model.specs.declared.WriteAnswer.{WriteAnswer}
 use Rattle.model.specs.declared.WriteAnswer.TheVariants as write-answer
 use Rattle.model.specs.declared.Item.{Item}
-use Rattle.model.specs.Answers.{Reply, refuses, accepts, answer_reply, check_reply, write_reply}
+use Rattle.model.specs.Answers.{Reply, accepts, answer_reply, check_reply, write_reply}
 use Rattle.model.specs.Lists.{all_of}
 use Rattle.model.specs.Tower.{Tower, Wind}
 use Rattle.model.specs.Reading.{Parsed, got, refused}
@@ -24,30 +25,12 @@ use Rattle.model.specs.Report.{over_sections, topmost_over}
 use Rattle.model.specs.declared.Refusal.TheVariants as refusal
 use Rattle.model.specs.Machine as machine
 use Rattle.model.specs.Machine.{State, no_tower, standing, erect_refusal, file_refusal}
-use Rattle.model.specs.Calls.{
-  Call,
-  erect,
-  hang,
-  take_down,
-  wind,
-  report,
-  check,
-  write,
-  bits,
-  typed,
-  meaning,
-  refusal_of,
-  step,
-  reply_of,
-  lent_before,
-  lent_after,
-  newly_erected,
-}
+use Rattle.model.specs.Calls.{Call, erect, hang, take_down, wind, report, check, write, bits, typed, meaning, refusal_of, reply_of, lent_before, lent_after, newly_erected}
 use Rattle.model.specs.Outcomes.{Outcome}
 use Rattle.model.specs.Valid.{ValidWind}
 use Rattle.model.proofs.Accepted.{accepted-valid}
 use Rattle.model.proofs.FileRefusals.{Numbered, file-numbered}
-use Rattle.model.proofs.Named.{Named, Told, free, told, refusal-for, not_free}
+use Rattle.model.proofs.Named.{Told, free, told, refusal-for, not_free}
 use Rattle.model.proofs.NewlyErected.{newly-typed}
 use Rattle.model.proofs.Refused.{same-state, same-lent, erect-state}
 use Rattle.model.proofs.Says.{accepted-reply, refused-reply}
@@ -149,7 +132,7 @@ check-answer-for no_tower = (check-answer.Refused refusal.NoTower, refl)
 check-answer-for (standing t none) = (check-answer.Refused refusal.NoWind, refl)
 check-answer-for (standing t (some w)) = first_of (over_sections t w)
 
--- lifetimes, and a reference to a value; no promise names the lifetime, or where the value lies
+-- lifetimes, and a reference to a value, shared or exclusive; no promise names the lifetime, where the value lies, or the name by which it is tracked
 abbrev one : Lfts 1
 one = ([], tt)
 
@@ -158,6 +141,9 @@ two = ([], ([], tt))
 
 abbrev lend : {A : Type 0} → A → Bor A
 lend l = record { ref_ptr = (0, 0); now = l }
+
+abbrev lend_mut : {A : Type 0} → A → MutBor A
+lend_mut l = record { ref_ptr = (0, 0); ghost_name = 0; now = l }
 
 -- each call has a link
 pub record Linked (l : Slots) (c : Call) : Type 0 where
@@ -172,7 +158,7 @@ link-exists l t (erect file) h =
     record {
       outcome = _;
       next = r.next.after;
-      link = erected two (lend l) (lend r.next.after) (lend file) r.answer h r.next.meets;
+      link = erected two (lend_mut l) (lend_mut r.next.after) (lend file) r.answer h r.next.meets;
       typed = r.next.typed;
     }
 link-exists l t (hang it) h =
@@ -180,7 +166,7 @@ link-exists l t (hang it) h =
     record {
       outcome = _;
       next = r.next.after;
-      link = hung one (lend l) (lend r.next.after) it r.answer (item-passed one it h) r.next.meets;
+      link = hung one (lend_mut l) (lend_mut r.next.after) it r.answer (item-passed one it h) r.next.meets;
       typed = r.next.typed;
     }
 link-exists l t (take_down n) h =
@@ -188,7 +174,7 @@ link-exists l t (take_down n) h =
     record {
       outcome = _;
       next = r.next.after;
-      link = taken-down one (lend l) (lend r.next.after) n r.answer h r.next.meets;
+      link = taken-down one (lend_mut l) (lend_mut r.next.after) n r.answer h r.next.meets;
       typed = r.next.typed;
     }
 link-exists l t (wind w) h =
@@ -200,7 +186,7 @@ link-exists l t (wind w) h =
       outcome = _;
       next = r.next.after;
       link =
-          wind-set two (lend l) (lend r.next.after) w.direction w.ice w.factor (lend w.pressures) r.answer k.0 k.1
+          wind-set two (lend_mut l) (lend_mut r.next.after) w.direction w.ice w.factor (lend w.pressures) r.answer k.0 k.1
           factor.1 ps.1 r.next.meets;
       typed = r.next.typed;
     }
@@ -209,7 +195,7 @@ link-exists l t (report lent) h =
       outcome = _;
       next = l;
       link =
-          reported two (lend l) (lend lent) (lend (lent_after (state_of l) (report lent))) (report-answer (state_of l) lent).0 h
+          reported two (lend l) (lend_mut lent) (lend_mut (lent_after (state_of l) (report lent))) (report-answer (state_of l) lent).0 h
           (asked (report lent) l refl (report-answer (state_of l) lent).1);
       typed = t;
     }
@@ -228,7 +214,7 @@ link-exists l t (write lent) h =
       outcome = _;
       next = l;
       link =
-          written two (lend l) (lend lent) (lend (lent_after (state_of l) (write lent))) (write-answer-for (state_of l) lent).0 h
+          written two (lend l) (lend_mut lent) (lend_mut (lent_after (state_of l) (write lent))) (write-answer-for (state_of l) lent).0 h
           (asked (write lent) l refl (write-answer-for (state_of l) lent).1);
       typed = t;
     }
@@ -250,7 +236,7 @@ chain-exists l t (c ∷ cs) h =
 
 -- each list of calls has a chain from a fresh service
 pub fresh-exists : IsFresh empty_slots × TypedSlots empty_slots
-fresh-exists = (cleared one (lend empty_slots) (lend empty_slots) refl, record { long = refl; each = refl })
+fresh-exists = (cleared one (lend_mut empty_slots) (lend_mut empty_slots) refl, record { long = refl; each = refl })
 
 pub record Ran (cs : List Call) : Type 0 where
   pub first : Slots

@@ -1,7 +1,7 @@
 -- Chains of calls on a service's state. A link is a call: arguments of the types of the function's parameters, as its signature has them, and the
 -- function's own contract, `Post` of the module `Reads` that the check makes of it, of the values passed, the result, and the values at exit.
 use Prim.Native.Nat.{ℕ, ◌^◌, ◌<◌}
-use mathlib.Core.Path.{◌≡◌, refl, ap, sym, ◌∙◌}
+use mathlib.Core.Path.{◌≡◌, refl, ap, ◌∙◌}
 use mathlib.Core.Bool.{Bool, true, false}
 use mathlib.Core.List.{List, [], ◌∷◌}
 use lib.Dec.{eqb}
@@ -10,6 +10,7 @@ use mir.Syntax.{Width}
 use mir.Val.{Fits, bits}
 use contract.Lifetimes.{Lfts}
 use denote.Ref.{Bor}
+use denote.MutBor.{MutBor}
 use Rattle.model.specs.declared.Answer.{Answer}
 use Rattle.model.specs.declared.CheckAnswer.{CheckAnswer}
 use Rattle.model.specs.declared.WriteAnswer.{WriteAnswer}
@@ -59,7 +60,7 @@ use Rattle.service.proofs.Arguments.{is_number, are_numbers, WellTyped, behind}
 
 -- `fresh` left the state so
 pub data IsFresh : Slots → Type 0 where
-  cleared : (κ : Lfts 1) (s after : Bor Slots) → fresh-reads.Post κ (s, tt) tt (after, tt) → IsFresh after.now
+  cleared : (κ : Lfts 1) (s after : MutBor Slots) → fresh-reads.Post κ (s, tt) tt (after, tt) → IsFresh after.now
 
 pub fresh-state : {f : Slots} → IsFresh f → state_of f ≡ no_tower
 unfolding state_of is_standing
@@ -67,26 +68,26 @@ fresh-state (cleared κ s after p) = ap state_of p
 
 -- on this state this call had this outcome and left that state. The arguments are of their parameters' types; the state, parameter 0, may be any value
 pub data Link : Slots → Call → Outcome → Slots → Type 0 where
-  erected : (κ : Lfts 2) (s after : Bor Slots) (file : Bor (List ℕ)) (a : Answer) → are_numbers erect-kinds.ps 1 file.now ≡ true
+  erected : (κ : Lfts 2) (s after : MutBor Slots) (file : Bor (List ℕ)) (a : Answer) → are_numbers erect-kinds.ps 1 file.now ≡ true
       → erect-reads.Post κ (s, (file, tt)) a (after, (file, tt))
       → Link s.now (erect file.now) (record { reply = answer_reply a; lent = file.now }) after.now
-  hung : (κ : Lfts 1) (s after : Bor Slots) (it : Item) (a : Answer) → WellTyped κ (behind hang-kinds.ps) (it, tt)
+  hung : (κ : Lfts 1) (s after : MutBor Slots) (it : Item) (a : Answer) → WellTyped κ (behind hang-kinds.ps) (it, tt)
       → hang-reads.Post κ (s, (it, tt)) a (after, (it, tt))
       → Link s.now (hang it) (record { reply = answer_reply a; lent = [] }) after.now
-  taken-down : (κ : Lfts 1) (s after : Bor Slots) (n : ℕ) (a : Answer) → is_number down-kinds.ps 1 n ≡ true
+  taken-down : (κ : Lfts 1) (s after : MutBor Slots) (n : ℕ) (a : Answer) → is_number down-kinds.ps 1 n ≡ true
       → down-reads.Post κ (s, (n, tt)) a (after, (n, tt))
       → Link s.now (take_down n) (record { reply = answer_reply a; lent = [] }) after.now
-  wind-set : (κ : Lfts 2) (s after : Bor Slots) (k ice factor : ℕ) (ps : Bor (List ℕ)) (a : Answer)
+  wind-set : (κ : Lfts 2) (s after : MutBor Slots) (k ice factor : ℕ) (ps : Bor (List ℕ)) (a : Answer)
       → is_number wind-kinds.ps 1 k ≡ true → is_number wind-kinds.ps 2 ice ≡ true → is_number wind-kinds.ps 3 factor ≡ true
       → are_numbers wind-kinds.ps 4 ps.now ≡ true
       → wind-reads.Post κ (s, (k, (ice, (factor, (ps, tt))))) a (after, (k, (ice, (factor, (ps, tt)))))
       → Link s.now (wind (wind_asked k ice factor ps.now)) (record { reply = answer_reply a; lent = ps.now }) after.now
-  reported : (κ : Lfts 2) (s : Bor Slots) (out filled : Bor (List ℕ)) (a : Answer) → are_numbers report-kinds.ps 1 out.now ≡ true
+  reported : (κ : Lfts 2) (s : Bor Slots) (out filled : MutBor (List ℕ)) (a : Answer) → are_numbers report-kinds.ps 1 out.now ≡ true
       → report-reads.Post κ (s, (out, tt)) a (s, (filled, tt))
       → Link s.now (report out.now) (record { reply = answer_reply a; lent = filled.now }) s.now
   checked : (κ : Lfts 1) (s : Bor Slots) (a : CheckAnswer) → check-reads.Post κ (s, tt) a (s, tt)
       → Link s.now check (record { reply = check_reply a; lent = [] }) s.now
-  written : (κ : Lfts 2) (s : Bor Slots) (out filled : Bor (List ℕ)) (a : WriteAnswer) → are_numbers write-kinds.ps 1 out.now ≡ true
+  written : (κ : Lfts 2) (s : Bor Slots) (out filled : MutBor (List ℕ)) (a : WriteAnswer) → are_numbers write-kinds.ps 1 out.now ≡ true
       → write-reads.Post κ (s, (out, tt)) a (s, (filled, tt))
       → Link s.now (write out.now) (record { reply = write_reply a; lent = filled.now }) s.now
 

@@ -18,7 +18,7 @@ use Rattle.model.proofs.Forces.{force-within}
 use Rattle.model.proofs.Growing.{greatest-at, band-force, band-shear, band-moment, force-grows, shear-grows, moment-grows}
 use Rattle.slots.specs.Held.{Slots}
 use Rattle.service.proofs.Links.{IsFresh, Chain}
-use Rattle.service.proofs.Demand3.{AcceptedReport, Each, entry-then, force-in, shear-in, moment-in, demand-3}
+use Rattle.service.proofs.Demand3.{AcceptedReport, Each, none_left, entry-then, force-in, shear-in, moment-in, demand-3}
 
 -- somewhere in a list of calls with these outcomes, the machine being given the same list from this state on, a report is
 -- accepted: of which tower under which wind, and the slice that it leaves
@@ -69,6 +69,7 @@ known_of {t} {w} {before} {after} r =
 
 known : {m : State} {cs : List Call} {os : List Outcome} {t : Tower} {w : Wind} {rows : List ℕ} → Each m cs os → AcceptedIn m cs os t w rows
     → Known t w rows
+known none_left r = elim r [ ]
 known (entry-then e es) (this-call {before = before} h) = known_of (e.accepted-report before refl h)
 known (entry-then e es) (later-call r) = known es r
 

@@ -1,10 +1,10 @@
 -- Each outcome is a function of the machine's state: where two values stand for the same state, the same calls have the same outcomes.
 use Prim.Native.Nat.{ℕ}
 use mathlib.Core.Path.{◌≡◌, refl, ap, sym, ◌∙◌}
-use mathlib.Core.List.{List, [], ◌∷◌}
+use mathlib.Core.List.{List, ◌∷◌}
 use Rattle.model.specs.Answers.{Reply}
 use Rattle.model.specs.Machine.{State}
-use Rattle.model.specs.Calls.{Call, step}
+use Rattle.model.specs.Calls.{Call}
 use Rattle.model.specs.Outcomes.{Outcome, outcome_of}
 use Rattle.slots.specs.Held.{Slots, state_of}
 use Rattle.service.proofs.Links.{IsFresh, fresh-state, Link, Chain, none, more, link-state, next-is, reply-is, lent_is}

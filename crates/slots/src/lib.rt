@@ -1,5 +1,7 @@
 // A service's state as numbers that the caller lends: 129 slots of 12 cells. Here alone a typed value is made from
 // slots and turned into slots.
+#![tactic(auto)]
+
 pub mod head;
 pub mod items;
 pub mod sections;

@@ -1,0 +1,25 @@
+use Rattle.std.proofs.Common.{◌≡◌, ◌<◌, ap, not, arith, eq-eqb}
+use borrow.Author.Tests.{ne_eqb}
+use Rattle.item_calls.proofs.ClosingUp.{partly-start, partly-less, partly_more}
+use Rattle.item_calls.proofs.take_down.close_up.Goals as goal
+use Rattle.item_calls.proofs.take_down.close_up.Goals.{then-x-number, else-x-number}
+
+pub loop-i-init : goal.loop-i-init
+loop-i-init c = (omega arith, partly-start c.args.number c.args.place c.args.s.now c.requires.3)
+
+pub loop-i-preserved : goal.loop-i-preserved
+loop-i-preserved c =
+    let l = c.loop-i in
+    let n = c.args.number in
+    let s = c.args.s.now in
+    let h : l.i < 64 = omega arith in
+    elim c.if-x-number.branch [
+      | then-x-number w ↦ rw (w.s-is, w.n-is) (omega arith, partly_more n s l.s l.n l.i c.requires.0 h l.invariant.0 l.invariant.1 (ap not (ne_eqb _ _ w.if-x-number.true)))
+      | else-x-number w ↦ rw (w.s-is, w.n-is) (omega arith, partly-less n s l.s l.n l.i c.requires.0 h l.invariant.0 l.invariant.1 (ap not (eq-eqb _ _ w.if-x-number.false)))
+    ]
+
+pub returns : goal.returns
+returns c =
+    let l = c.loop-i in
+    let e : c.args.held ≡ l.i = omega arith in
+    rw e (record { items = l.invariant.1.items; beside = l.invariant.1.beside; long = l.invariant.1.long; few = l.invariant.0 })
