@@ -3,9 +3,9 @@
  * NA.B to EN 1993-3-1, for a host program in C (C99 or later) or C++.
  *
  * One call takes a tower file and a wind and gives the report: areas, force,
- * shear and moment of each section. `rt staticlib host` writes the library,
- * target/staticlib/libhost.a, for x86-64; it needs memcpy and memset of libc
- * and nothing else.
+ * shear and moment of each section. `rt lib` in crates/host writes the library,
+ * crates/host/out/libhost.a, for x86-64 with SSE4.2 and POPCNT (x86-64-v2); it
+ * needs memcpy and memset of libc and nothing else.
  *
  * The call is proved, for all bytes and numbers, to answer as "document 01"
  * says (the paper that README.md and docs/READING.md follow). What is proved
@@ -35,7 +35,7 @@ extern "C" {
 
 /*
  * Stack that a thread should have left for a call. It is measured, not proved:
- * examples/c/limits.c found 23 927 bytes in use on the largest tower. The rest
+ * examples/c/limits.c found 21 303 bytes in use on the largest tower. The rest
  * is for a loader that binds memcpy on its first call.
  */
 #define DEMBYHAI_STACK_BYTES 81920

@@ -2,9 +2,9 @@
 
 The shared library is made from the static one, in the repository's root:
 
-    rt staticlib host
+    (cd crates/host && rt lib)
     mkdir -p target/examples
-    gcc -shared -o target/examples/libdembyhai.so -Wl,--whole-archive target/staticlib/libhost.a -Wl,--no-whole-archive
+    gcc -shared -o target/examples/libdembyhai.so -Wl,--whole-archive crates/host/out/libhost.a -Wl,--no-whole-archive
 
 DEMBYHAI_LIBRARY names another place of it.
 """

@@ -1,4 +1,4 @@
-//! Links the proved libraries that `rt staticlib NAME` builds.
+//! Links the proved libraries, of which reference/benchmark puts copies into target/staticlib.
 
 use std::path::Path;
 
@@ -19,7 +19,7 @@ fn main() {
     let folder = Path::new(env!("CARGO_MANIFEST_DIR")).join("../../target/staticlib");
     println!("cargo::rustc-link-search=native={}", folder.display());
     for name in LIBRARIES {
-        link(&folder, name, &format!("rt staticlib {name}"));
+        link(&folder, name, "reference/benchmark");
     }
     let late = LATE.map(|(_, function)| function);
     let names: Vec<String> = LIBRARIES

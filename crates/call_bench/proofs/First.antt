@@ -1,6 +1,5 @@
 -- The item that was hung first.
-use Rattle.std.proofs.Common.{◌≡◌, ℕ, ◌<◌, true, false, List, [], ◌∷◌, map, length, get_or, take, drop, sym, refl, ap, ◌∙◌, arith, length-drop, length-take-le, get_or-drop, get_or-take}
-use Rattle.model.specs.declared.Item.{Item}
+use Rattle.std.proofs.Common.{◌≡◌, ℕ, ◌<◌, true, false, List, [], ◌∷◌, map, length, get_or, take, drop, refl, ap, ◌∙◌, arith, length-drop, length-take-le, get_or-drop, get_or-take}
 use Rattle.slots.specs.Held.{Slots, slot, is_standing, held_in, item_of, items_in, state_of}
 use Rattle.slots.proofs.Grounds.{standing-as, fallen, held-few}
 use Rattle.call_bench.specs.Repeated.{dish, first_in}

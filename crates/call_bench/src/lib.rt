@@ -1,5 +1,7 @@
 // Calls of the service, many times in one call, for a benchmark. Each function erects the file on a fresh service and
 // sets the wind before it repeats a call, and answers how many of the repeated calls are accepted, modulo 2^64.
+#![tactic(auto)]
+
 ghost use Rattle.std.specs.Prelude.{◌≡◌, ◌+◌, ◌%◌, ◌^◌};
 ghost use Rattle.model.specs.Answers.{answer_number};
 ghost use Rattle.slots.specs.Held.{state_of};

@@ -1,11 +1,11 @@
 -- A file that is accepted and written is itself again, and written twice it is as written once.
 use Prim.Native.Nat.{ℕ, ◌-◌, ◌^◌, ◌≤◌, ◌<◌}
 use mathlib.Core.Path.{◌≡◌, refl, ap, sym, ◌∙◌}
-use mathlib.Core.Bool.{Bool, true, false, cond, ◌&&◌}
+use mathlib.Core.Bool.{Bool, true, false, cond}
 use mathlib.Core.List.{List, [], ◌++◌}
 use mathlib.Core.Option.{none}
 use native.Mathlib.Omega.{arith}
-use lib.Dec.{leb, ltb, eqb}
+use lib.Dec.{leb, ltb}
 use lib.ListN.{length, get_or, drop, length-append, length-drop}
 use lib.Seq.{drop-append_seam}
 use borrow.Author.Tests.{lt-ltb, le-ltb, leb-true, leb-false, le-leb, lt-leb}
@@ -27,7 +27,7 @@ use Rattle.tower_file.specs.declared.FileRead.{FileRead}
 use Rattle.tower_file.specs.Stored.{ReadsFile}
 use Rattle.tower_file.specs.Written.{WritesFile}
 use Rattle.tower_file.proofs.Filed.{all-bytes}
-use Rattle.file_bench.specs.Timed.{length_in, is_accepted, is_timed, answer_of, bytes_of, Timed}
+use Rattle.file_bench.specs.Timed.{length_in, is_timed, answer_of, bytes_of, Timed}
 
 -- what a writing answers and leaves, by whether the lent bytes are enough
 module _ (t : Tower) where

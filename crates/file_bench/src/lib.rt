@@ -1,4 +1,6 @@
 // For a benchmark: a tower file read or written many times in one call, and the numbers of its fields by either reader.
+#![tactic(auto)]
+
 ghost use Rattle.std.specs.Prelude.{◌≤◌, ◌≡◌, map, length};
 ghost use Rattle.file_fields.specs.Outcomes.{ReadsField};
 ghost use Rattle.file_fields.specs.Written.{Puts};
@@ -83,7 +85,7 @@ pub extern "C" fn write_bench(file: &[u8], rounds: u64, out: &mut [u8]) -> u64
 }
 
 // Which reader of fields is timed.
-#[derive(Drop)]
+#[derive(Clone, Copy)]
 enum Reader {
     // two and four bytes are fetched as one number
     Word,

@@ -7,6 +7,7 @@ use crate::{Fault, Found, Kind};
 use lines::Count;
 use lines::numbers::numbers_of;
 
+#[tactic(auto, unfolding(crate::specs::Cases::kind_byte))]
 fn kind_byte(b: u8) -> Kind
     ensures { result ≡ kind_byte b }
 {

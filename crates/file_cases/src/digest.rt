@@ -12,6 +12,7 @@ use model::numbers::legs_number;
 use model::{Group, Item, Member, Section, Tower};
 
 // Each function mixes something into d.
+#[tactic(auto, unfolding(lines::specs::Digest::digest))]
 fn mix_member(d: u64, m: Member) -> u64
     ensures { result ≡ digest d (kind_of m ∷ (size_of m).0 ∷ []) }
 {
@@ -21,6 +22,7 @@ fn mix_member(d: u64, m: Member) -> u64
     }
 }
 
+#[tactic(auto, unfolding(lines::specs::Digest::digest))]
 fn mix_group(d: u64, g: Group) -> u64
     ensures { result ≡ digest d (group_values g) }
 {
@@ -71,6 +73,7 @@ fn mix_sections(d: u64, sections: [Section; 32], count: usize) -> u64
     d
 }
 
+#[tactic(auto, unfolding(lines::specs::Digest::digest))]
 fn mix_item(d: u64, it: Item) -> u64
     ensures { result ≡ digest d (item_values it) }
 {

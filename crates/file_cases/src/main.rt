@@ -7,6 +7,8 @@
 // The answer is `refused N`, with document 01's number, or `ok LENGTH TOWER OUT`: the length that write answers, a digest of the tower, and
 // one of LENGTH + 5 lent bytes, all 165 before, into which it is written. For r it is `ok LENGTH OUT`, or `refused 22 OUT` where they are too
 // few. A file, and what is lent, has at most 4000 bytes. Any other line is answered by what is wrong with it first.
+#![tactic(auto)]
+
 mod cases;
 mod digest;
 mod files;
@@ -18,10 +20,12 @@ ghost use Rattle.file_cases.specs.Bounds.{InRoom};
 use crate::cases::{kind_of, numbers_in};
 use crate::files::build;
 use crate::replies::{answer_file, answer_room, put_fault};
-use libc::{STDIN_FILENO, STDOUT_FILENO};
+use lines::scan::find;
+use std::io;
+use std::io::Read;
 
 // What a line is, by its first byte.
-#[derive(Drop)]
+#[derive(Clone, Copy)]
 enum Kind {
     File,
     First,
@@ -32,7 +36,7 @@ enum Kind {
 }
 
 // What is wrong with a line.
-#[derive(Drop)]
+#[derive(Clone, Copy)]
 enum Fault {
     Case,
     Numbers,
@@ -44,21 +48,21 @@ enum Fault {
 }
 
 // How many numbers or bytes there are, or what is wrong with the line.
-#[derive(Drop)]
+#[derive(Clone, Copy)]
 enum Found {
     Of(usize),
     Wrong(Fault),
 }
 
 // A file: its first `count` bytes.
-#[derive(Drop)]
+#[derive(Clone, Copy)]
 struct File {
     count: usize,
     bytes: [u8; 4000],
 }
 
 // A line's file, which has so many bytes. For r that is how many are lent.
-#[derive(Drop)]
+#[derive(Clone, Copy)]
 struct Case {
     kind: Kind,
     found: Found,
@@ -138,27 +142,27 @@ fn no_file() -> File
     File { count: 0, bytes }
 }
 
-fn answer_all(text: &[u8], out: &mut [u8]) {
+fn answer_all(rt: &impl Print, text: &[u8], out: &mut [u8]) -> io::Result<()> {
     let mut base = no_file();
     let mut at: usize = 0;
     while at < text.len() {
-        let end = bytes::scan::find(text, at, text.len(), b'\n');
+        let end = find(text, at, text.len(), b'\n');
         let c = case_of(&text[at..end], base);
         let n = answer(c, base, out);
-        io::write_all(STDOUT_FILENO, &out[0..n]);
+        rt.write_all(&out[0..n])?;
         base = next_base(c, base);
         at = end + 1;
     }
+    Ok(())
 }
 
 // The input may have 500 000 bytes.
-fn main() {
-    let mut text = [0u8; 500_001];
-    let n = io::read_full(STDIN_FILENO, &mut text);
-    if 500_000 < n {
-        io::write_all(STDOUT_FILENO, b"error: the input is too long\n");
-        return;
+fn main(rt: HostRuntime) -> io::Result<()> {
+    let mut text = Vec::new(rt.alloc());
+    rt.stdin().take(500_001).read_to_end(&mut text)?;
+    if 500_000 < text.len() {
+        return rt.write_all(b"error: the input is too long\n");
     }
     let mut out = [0u8; 128];
-    answer_all(&text[..n], &mut out);
+    answer_all(&rt, &text, &mut out)
 }

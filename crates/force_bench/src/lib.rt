@@ -1,4 +1,6 @@
 // Many section forces in one call, for a benchmark.
+#![tactic(auto)]
+
 ghost use Rattle.std.specs.Prelude.{◌≡◌, ◌≤◌};
 ghost use Rattle.model.specs.Force.{largest_items};
 ghost use Rattle.case_words.specs.Faults.{SoundCase};

@@ -2,6 +2,8 @@
 // The last line says how many forces each way decided.
 // A line is LEGS K ICE FACTOR PRESSURE WIDTH HEIGHT GROUPCOUNT (KIND SIZE LENGTH)* ITEMCOUNT (SECTION WIDTH LENGTH BARE ICED POSITION)*.
 // The case's section is number 0: items on other sections do not count.
+#![tactic(auto)]
+
 ghost use Rattle.std.specs.Prelude.{◌≡◌, ◌≤◌, length};
 ghost use Rattle.model.specs.Lists.{list_to};
 ghost use Rattle.case_words.specs.Faults.{SoundCase};
@@ -15,33 +17,35 @@ use case_words::items::item_at;
 use case_words::{Case, Fault, case_of};
 use force::section::{formula_load, section_load};
 use force::{Load, Way};
-use libc::{STDIN_FILENO, STDOUT_FILENO};
 use lines::Count;
 use lines::numbers::numbers_of;
+use lines::scan::find;
 use lines::text::{put, put_bytes, put_number};
 use model::numbers::legs_of;
 use slots::items::{item_slot, item_sums};
 use slots::{EMPTY, Slot};
+use std::io;
+use std::io::Read;
 
 // What a line holds at most: 8 numbers, those of 8 groups, the number of items and those of 64 items.
 const MOST_NUMBERS: usize = 8 + 3 * 8 + 1 + 6 * 64;
 
 // Whether a line is a case, and what decided its force.
-#[derive(Drop)]
+#[derive(Clone, Copy)]
 enum Told {
     Refused,
     Decided(Way),
 }
 
 // A line of output: its length, and what it tells.
-#[derive(Drop)]
+#[derive(Clone, Copy)]
 struct Line {
     length: usize,
     told: Told,
 }
 
 // How many forces each way decided.
-#[derive(Drop)]
+#[derive(Clone, Copy)]
 struct Counts {
     no_pressure: u64,
     bounds: u64,
@@ -202,7 +206,7 @@ fn put_counts(out: &mut [u8], c: Counts) -> usize
     put_count(out, at, c.squares, b"by squares\n")
 }
 
-fn answer_all(text: &[u8], numbers: &mut [u64], out: &mut [u8]) {
+fn answer_all(rt: &impl Print, text: &[u8], numbers: &mut [u64], out: &mut [u8]) -> io::Result<()> {
     let mut counts = Counts {
         no_pressure: 0,
         bounds: 0,
@@ -211,27 +215,26 @@ fn answer_all(text: &[u8], numbers: &mut [u64], out: &mut [u8]) {
     };
     let mut at: usize = 0;
     while at < text.len() {
-        let end = bytes::scan::find(text, at, text.len(), b'\n');
+        let end = find(text, at, text.len(), b'\n');
         let a = answer(&text[at..end], numbers, out);
         let n = a.length;
-        io::write_all(STDOUT_FILENO, &out[0..n]);
+        rt.write_all(&out[0..n])?;
         let told = a.told;
         counts = counted(counts, told);
         at = end + 1;
     }
     let length = put_counts(out, counts);
-    io::write_all(STDOUT_FILENO, &out[0..length]);
+    rt.write_all(&out[0..length])
 }
 
 // The input may have 500 000 bytes.
-fn main() {
-    let mut text = [0u8; 500_001];
-    let n = io::read_full(STDIN_FILENO, &mut text);
-    if 500_000 < n {
-        io::write_all(STDOUT_FILENO, b"error: the input is too long\n");
-        return;
+fn main(rt: HostRuntime) -> io::Result<()> {
+    let mut text = Vec::new(rt.alloc());
+    rt.stdin().take(500_001).read_to_end(&mut text)?;
+    if 500_000 < text.len() {
+        return rt.write_all(b"error: the input is too long\n");
     }
     let mut numbers = [0u64; MOST_NUMBERS];
     let mut out = [0u8; 256];
-    answer_all(&text[..n], &mut numbers, &mut out);
+    answer_all(&rt, &text, &mut numbers, &mut out)
 }

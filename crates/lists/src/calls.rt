@@ -16,14 +16,14 @@ use slots::items::item_of;
 use slots::wind::has_wind;
 
 // What a call hands back beside the state: its answer, and a number for all else, lent elements included.
-#[derive(Drop)]
+#[derive(Clone, Copy)]
 pub struct Told {
     pub answer: Answer,
     pub rest: u64,
 }
 
 // What a call's arguments are drawn for. Where there is no tower, one section on four legs.
-#[derive(Drop)]
+#[derive(Clone, Copy)]
 struct Seen {
     legs: Legs,
     sections: u64,

@@ -9,6 +9,8 @@
 // Last it puts another tower under 15 001 winds, one after the other, each with 1 N/m² more on one section. It prints the report at every 1 000 N/m²,
 // a line `pressed` for each section's row; a digest of all reports; and, as `compared MORE SAME LESS`, how many forces, shears and moments were more
 // than in the report before, the same, and less.
+#![tactic(auto)]
+
 ghost use Rattle.std.specs.Prelude.{◌≡◌, ◌+◌, ◌%◌, ◌^◌, slice_index, slice_set};
 ghost use Rattle.model.specs.Answers.{answer_number};
 
@@ -20,38 +22,39 @@ use crate::calls::call;
 use crate::million::{DRAWN_END, END, MILLION, start};
 use crate::pressures::{Counts, PRINTED, WINDS, compared, mixed, press, standing};
 use draws::keys::bits;
-use libc::STDOUT_FILENO;
 use lines::digest::{START, mix, numbers_digest};
 use model::Answer;
 use model::numbers::{ANSWERS, answer_number};
 use service::answers::report;
 use service::changes::fresh;
 use slots::{EMPTY, State};
+use std::io;
 
 // A list up to some call: a digest of the answers and of all that was lent, and how often each answer came, also in earlier lists.
-#[derive(Drop)]
+#[derive(Clone, Copy)]
 struct Run {
     digest: u64,
     counts: [u64; ANSWERS],
 }
 
-fn print_line(name: &[u8], numbers: &[u64]) {
-    io::write_all(STDOUT_FILENO, name);
+fn print_line(rt: &impl Print, name: &[u8], numbers: &[u64]) -> io::Result<()> {
+    rt.write_all(name)?;
     for i in 0usize..numbers.len() {
-        io::write_all(STDOUT_FILENO, b" ");
-        io::print_decimal(STDOUT_FILENO, numbers[i]);
+        rt.write_all(b" ")?;
+        rt.print(numbers[i])?;
     }
-    io::write_all(STDOUT_FILENO, b"\n");
+    rt.write_all(b"\n")
 }
 
-fn print_counts(name: &[u8], counts: [u64; ANSWERS]) {
+fn print_counts(rt: &impl Print, name: &[u8], counts: [u64; ANSWERS]) -> io::Result<()> {
     for i in 0usize..ANSWERS {
         let count = counts[i];
         if 0 < count {
             let line = [i as u64, count];
-            print_line(name, &line);
+            print_line(rt, name, &line)?;
         }
     }
+    Ok(())
 }
 
 // One more of this answer.
@@ -90,7 +93,7 @@ fn run_part(s: &mut State, r: Run, list: u64, from: u64, to: u64) -> Run {
     run
 }
 
-fn run_lists() -> [u64; ANSWERS] {
+fn run_lists(rt: &impl Print) -> io::Result<[u64; ANSWERS]> {
     let mut state = EMPTY;
     let mut counts = [0u64; ANSWERS];
     for place in 0u64..2000 {
@@ -99,20 +102,21 @@ fn run_lists() -> [u64; ANSWERS] {
         let more = run.counts;
         let accepted = std::num::wrapping_sub_u64(more[0], counts[0]);
         let line = [place, accepted, run.digest];
-        print_line(b"list", &line);
+        print_line(rt, b"list", &line)?;
         counts = more;
     }
-    counts
+    Ok(counts)
 }
 
 // A line for each row.
-fn print_rows(name: &[u8], rows: &[u64]) {
+fn print_rows(rt: &impl Print, name: &[u8], rows: &[u64]) -> io::Result<()> {
     let mut at: usize = 0;
     while 6 <= rows.len() - at {
         let end = at + 6;
-        print_line(name, &rows[at..end]);
+        print_line(rt, name, &rows[at..end])?;
         at = end;
     }
+    Ok(())
 }
 
 // The report of six sections.
@@ -122,10 +126,10 @@ fn rows_of(s: &State) -> [u64; 36] {
     rows
 }
 
-fn print_report(name: &[u8], rows: &[u64; 36]) {
-    print_rows(name, rows);
+fn print_report(rt: &impl Print, name: &[u8], rows: &[u64; 36]) -> io::Result<()> {
+    print_rows(rt, name, rows)?;
     let line = [numbers_digest(rows)];
-    print_line(b"digest", &line);
+    print_line(rt, b"digest", &line)
 }
 
 // How many numbers are equal.
@@ -140,36 +144,37 @@ fn equal(a: [u64; 36], b: [u64; 36]) -> u64 {
 }
 
 // The million's list from this state on.
-fn run_million(s: &mut State) -> Run {
+fn run_million(rt: &impl Print, s: &mut State) -> io::Result<Run> {
     let counts = [0u64; ANSWERS];
     let run = run_part(s, new_run(counts), MILLION, 0, DRAWN_END);
     let amid = rows_of(s);
-    print_report(b"amid", &amid);
-    run_part(s, run, MILLION, DRAWN_END, END)
+    print_report(rt, b"amid", &amid)?;
+    Ok(run_part(s, run, MILLION, DRAWN_END, END))
 }
 
-fn print_million() {
+fn print_million(rt: &impl Print) -> io::Result<()> {
     let mut state = EMPTY;
     start(&mut state);
     let first = rows_of(&state);
-    print_report(b"start", &first);
-    let run = run_million(&mut state);
+    print_report(rt, b"start", &first)?;
+    let run = run_million(rt, &mut state)?;
     let last = rows_of(&state);
-    print_report(b"end", &last);
+    print_report(rt, b"end", &last)?;
     let counts = run.counts;
-    print_counts(b"million", counts);
+    print_counts(rt, b"million", counts)?;
     let line = [equal(first, last)];
-    print_line(b"equal", &line);
+    print_line(rt, b"equal", &line)
 }
 
 // The rows at every 1 000 N/m².
-fn print_pressed(place: u64, rows: &[u64; 18]) {
+fn print_pressed(rt: &impl Print, place: u64, rows: &[u64; 18]) -> io::Result<()> {
     if place % PRINTED == 0 {
-        print_rows(b"pressed", rows);
+        print_rows(rt, b"pressed", rows)?;
     }
+    Ok(())
 }
 
-fn print_pressures() {
+fn print_pressures(rt: &impl Print) -> io::Result<()> {
     let mut state = EMPTY;
     standing(&mut state);
     press(&mut state, 0);
@@ -180,24 +185,24 @@ fn print_pressures() {
         same: 0,
         less: 0,
     };
-    print_pressed(0, &rows);
+    print_pressed(rt, 0, &rows)?;
     for place in 1u64..WINDS {
         press(&mut state, place);
         let next = pressures::rows_of(&state);
         counts = compared(counts, rows, next);
         digest = mixed(digest, next);
         rows = next;
-        print_pressed(place, &rows);
+        print_pressed(rt, place, &rows)?;
     }
     let line = [digest];
-    print_line(b"digest", &line);
+    print_line(rt, b"digest", &line)?;
     let line = [counts.more, counts.same, counts.less];
-    print_line(b"compared", &line);
+    print_line(rt, b"compared", &line)
 }
 
-fn main() {
-    let counts = run_lists();
-    print_counts(b"answer", counts);
-    print_million();
-    print_pressures();
+fn main(rt: HostRuntime) -> io::Result<()> {
+    let counts = run_lists(&rt)?;
+    print_counts(&rt, b"answer", counts)?;
+    print_million(&rt)?;
+    print_pressures(&rt)
 }

@@ -18,7 +18,7 @@ pub(crate) const PRINTED: u64 = 3_000;
 const PRESSED: u64 = 18;
 
 // How many forces, shears and moments were more than in the report before, the same, and less.
-#[derive(Drop)]
+#[derive(Clone, Copy)]
 pub(crate) struct Counts {
     pub more: u64,
     pub same: u64,

@@ -3,9 +3,9 @@ ghost use Rattle.std.specs.Prelude.{◌+◌, ◌≤◌, length};
 ghost use Rattle.towerd.specs.Buffered.{Buffered, Moved};
 
 use crate::Input;
-use libc::STDIN_FILENO;
 use lines::text::put;
 use requests::line::LONGEST;
+use std::io::Read;
 
 // The n bytes from `at` on, moved to the start.
 fn move_down(buf: &mut [u8], at: usize, n: usize)
@@ -49,8 +49,8 @@ fn last_line(buf: &mut [u8], rest: usize, cut: bool) -> Input
     }
 }
 
-// More bytes behind those that are not answered.
-pub fn refill(input: Input, buf: &mut [u8]) -> Input
+// More bytes behind those that are not answered. A read that fails counts as the end of the input.
+pub fn refill(stdin: &mut impl Read, input: Input, buf: &mut [u8]) -> Input
     requires { Buffered input buf.old }
     ensures { Buffered result buf.new }
 {
@@ -62,8 +62,7 @@ pub fn refill(input: Input, buf: &mut [u8]) -> Input
     let cut = input.cut || is_long(input);
     let rest = kept(input);
     move_down(buf, input.at, rest);
-    let got = libc::read(STDIN_FILENO, &mut buf[rest..]);
-    let n = io::count(got, &buf[rest..]);
+    let n = stdin.read(&mut buf[rest..]).unwrap_or(0);
     if n == 0 {
         return last_line(buf, rest, cut);
     }
