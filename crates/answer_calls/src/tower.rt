@@ -8,7 +8,7 @@ use file_parts::items::NO_ITEM;
 use model::{Item, Section, Tower};
 use slots::Slot;
 use slots::head::{count_in, held_in, legs_in};
-use slots::items::item_of;
+use slots::items::item_at;
 use slots::sections::{least, section_at};
 use slots::wind::ice_on;
 use units::Length;
@@ -32,9 +32,7 @@ fn items_in(s: &[Slot], held: usize) -> [Item; 64]
 {
     let mut items = [NO_ITEM; 64];
     for i in 0usize..held {
-        let at = 65 + i;
-        let slot = s[at];
-        let it = item_of(slot);
+        let it = item_at(s, i);
         items[i] = it;
     }
     items

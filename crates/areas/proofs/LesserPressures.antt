@@ -82,10 +82,10 @@ any-winds t q p [] = refl
 any-winds t q p (g ∷ gs) = rw (any_append (eqb p) (lesser_of t q g.member) (lesser_winds t q gs), any-winds t q p gs)
 
 -- what is read past the end does not matter before it
-pub get_d_any : (l : List Group) (i : ℕ) (c d : Group) → i < length l → get_or l i c ≡ get_or l i d
-get_d_any [] i c d h = absurd (omega arith)
-get_d_any (g ∷ l) zero c d h = refl
-get_d_any (g ∷ l) (suc i) c d h = get_d_any l i c d (omega arith)
+pub get_or-any : (l : List Group) (i : ℕ) (c d : Group) → i < length l → get_or l i c ≡ get_or l i d
+get_or-any [] i c d h = absurd (omega arith)
+get_or-any (g ∷ l) zero c d h = refl
+get_or-any (g ∷ l) (suc i) c d h = get_or-any l i c d (omega arith)
 
 -- one group more is covered
 pub covered_more : (t : Length) (q : ℕ) (gs : List Group) (from i : ℕ) → ((k : ℕ) → from ≤ k → k < i → Covered t q gs k) → Covered t q gs i

@@ -19,8 +19,9 @@ use Rattle.model.specs.Lists.{sum_by}
 use Rattle.model.specs.Areas.{same_flow, flow_of, group_area, area_in, areas_of, solid_of}
 use Rattle.model.specs.Force.{item_part, item_sum, largest_item}
 use Rattle.model.proofs.Lists.{sum_by-none, sum_by-more}
-use Rattle.areas.specs.Sums.{Added}
-use Rattle.areas.proofs.Facts.{GroupFacts, group-bound}
+use Rattle.model.specs.Valid.{group_fits}
+use Rattle.areas.specs.Sums.{Added, SmallAreas}
+use Rattle.areas.proofs.Facts.{GroupFacts, group-facts, group-bound}
 
 abbrev areas : ℕ → ℕ → ℕ → Areas
 areas x y z = record { flat = record { 0 = x }; subcritical = record { 0 = y }; supercritical = record { 0 = z } }
@@ -54,6 +55,28 @@ areas-more t q l i d h a r e s =
     (omega (arith, ap (λ (x : Areas). x.flat.0) e))
     (omega (arith, ap (λ (x : Areas). x.subcritical.0) e))
     (omega (arith, ap (λ (x : Areas). x.supercritical.0) e))
+
+-- after i groups: the sums over them, each at most that of i of the largest groups
+pub record AreasAfter (t : Length) (q : ℕ) (l : List Group) (i : ℕ) (a : Areas) : Type 0 where
+  pub sums : a ≡ areas_of t q (take i l)
+  pub flat : a.flat.0 ≤ i * 220_000_000
+  pub subcritical : a.subcritical.0 ≤ i * 220_000_000
+  pub supercritical : a.supercritical.0 ≤ i * 220_000_000
+
+pub after_none : (t : Length) (q : ℕ) (l : List Group) → AreasAfter t q l 0 (areas 0 0 0)
+after_none t q l = record { sums = areas-none t q; flat = omega arith; subcritical = omega arith; supercritical = omega arith }
+
+pub after-more : (t : Length) (q : ℕ) (l : List Group) (i : ℕ) (d : Group) → t.0 ≤ 50 → i < length l → group_fits (get_or l i d) ≡ true
+    → {a r : Areas} → AreasAfter t q l i a → Added t q (get_or l i d) a r → AreasAfter t q l (i + 1) r
+after-more t q l i d thin h fits {a} {r} s e =
+    let k = group-facts (get_or l i d) fits in
+    let f = area-in-bound flow.Flat t q (get_or l i d) thin k in
+    let b = area-in-bound flow.Subcritical t q (get_or l i d) thin k in
+    let p = area-in-bound flow.Supercritical t q (get_or l i d) thin k in
+    record { sums = areas-more t q l i d h a r s.sums e; flat = omega arith; subcritical = omega arith; supercritical = omega arith }
+
+pub after-small : {t : Length} {q : ℕ} {l : List Group} {i : ℕ} {a : Areas} → i ≤ 8 → AreasAfter t q l i a → SmallAreas a
+after-small few s = record { flat = omega arith; subcritical = omega arith; supercritical = omega arith }
 
 -- the same for A_S
 pub solid-none : (t : Length) → (solid_of t []).0 ≡ 0

@@ -5,9 +5,10 @@ ghost use Rattle.model.specs.Ranges as ranges;
 ghost use Rattle.model.specs.Areas.{size_of, solid_of};
 ghost use Rattle.model.specs.File.{fields_in_range};
 ghost use Rattle.model.specs.Valid.{group_fits};
-ghost use Rattle.areas.specs.Fits.{sizes_fit, fits_under};
+ghost use Rattle.areas.specs.Fits.{sizes_fit, fits_under, MeasuredGroups, MeasuredUnder};
 
-use crate::section::{gross_area, group_area};
+use crate::Measured;
+use crate::section::{NO_AREAS, add_group, gross_area, group_area, solid_area};
 use model::ranges::{
     COEFFICIENTS, ITEM_LENGTH, ITEM_WIDTH, MEMBER_LENGTH, MEMBER_SIZE, POSITION_FACTOR,
     SECTION_HEIGHT, SECTION_WIDTH, within,
@@ -98,20 +99,55 @@ pub fn solid_under(t: Length, s: Section) -> Area
     Area(sum)
 }
 
-// A section that stands bare and under ice of thickness t: A_S is at most A_u under the ice, and so bare.
+// The areas of the groups under pressure q, and whether all are in range and their A_S is at most this area.
+fn measure_groups(t: Length, q: u16, s: Section, most: Area) -> Measured
+    requires { (t.0 ≤ 50) × (s.count ≤ 8) }
+    ensures { MeasuredGroups t q (take s.count s.groups) most result }
+{
+    let n = s.count;
+    let mut areas = NO_AREAS;
+    for i in 0usize..n {
+        let g = s.groups[i];
+        if !group_fits(g) {
+            return Measured {
+                stands: false,
+                areas,
+            };
+        }
+        areas = add_group(t, q, g, areas);
+    }
+    let solid = solid_area(areas);
+    Measured {
+        stands: solid.0 <= most.0,
+        areas,
+    }
+}
+
+// The areas under pressure q of a section that stands bare and under ice of thickness t: A_S is at most A_u under the
+// ice, and so bare.
+pub fn measure(t: Length, q: u16, s: Section) -> Measured
+    ensures { MeasuredUnder t q s result }
+{
+    if 50 < t.0 {
+        return Measured {
+            stands: false,
+            areas: NO_AREAS,
+        };
+    }
+    if !sizes_fit(s) {
+        return Measured {
+            stands: false,
+            areas: NO_AREAS,
+        };
+    }
+    let gross = gross_area(s);
+    measure_groups(t, q, s, gross)
+}
+
+// Whether it stands. The pressure has no part in that.
 pub fn fits_under(t: Length, s: Section) -> bool
     ensures { result ≡ fits_under t s }
 {
-    if 50 < t.0 {
-        return false;
-    }
-    if !sizes_fit(s) {
-        return false;
-    }
-    if !groups_fit(s) {
-        return false;
-    }
-    let gross = gross_area(s);
-    let iced = solid_under(t, s);
-    iced.0 <= gross.0
+    let m = measure(t, 0, s);
+    m.stands
 }

@@ -68,7 +68,7 @@ pub fn flow_class(t: Length, q: u16, m: Member) -> Flow
 }
 
 // The three sums with a group's area in the sum of its flow class.
-fn add_group(t: Length, q: u16, g: Group, sum: Areas) -> Areas
+pub(crate) fn add_group(t: Length, q: u16, g: Group, sum: Areas) -> Areas
     requires { (t.0 ≤ 50) × (group_fits g ≡ true) × SmallAreas sum }
     ensures { Added t q g sum result }
 {
@@ -97,17 +97,19 @@ fn add_group(t: Length, q: u16, g: Group, sum: Areas) -> Areas
     }
 }
 
+pub(crate) const NO_AREAS: Areas = Areas {
+    flat: Area(0),
+    subcritical: Area(0),
+    supercritical: Area(0),
+};
+
 // A_f, A_c and A_p of a section's face.
 pub fn section_areas(t: Length, q: u16, s: Section) -> Areas
     requires { (t.0 ≤ 50) × (s.count ≤ 8) × (all_of group_fits (take s.count s.groups) ≡ true) }
     ensures { (result ≡ areas_of t q (section_of s).groups) × SmallAreas result }
 {
     let n = s.count;
-    let mut sum = Areas {
-        flat: Area(0),
-        subcritical: Area(0),
-        supercritical: Area(0),
-    };
+    let mut sum = NO_AREAS;
     for i in 0usize..n {
         let g = s.groups[i];
         sum = add_group(t, q, g, sum);

@@ -12,7 +12,7 @@ use model::{Answer, Item};
 use service::answers::report;
 use service::changes::{erect, fresh, hang, set_wind, take_down};
 use slots::head::{held_in, is_standing};
-use slots::items::item_of;
+use slots::items::item_at;
 use slots::{EMPTY, State};
 use units::Length;
 
@@ -60,8 +60,7 @@ fn first_of(s: &State) -> Item
     if held_in(s) == 0 {
         return dish(0);
     }
-    let slot = s[65];
-    item_of(slot)
+    item_at(s, 0)
 }
 
 // The state as it is, in another place.

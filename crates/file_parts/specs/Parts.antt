@@ -1,5 +1,5 @@
 -- Three parts of the file that are read by themselves: a section's fields before its groups, an item behind its number,
--- and the items with their count. Laws `Head-first`, `number-first` and `items-last` in proofs/Order: the file is read
+-- and the items with their count. Laws `head_first`, `number-first` and `items-last` in proofs/Order: the file is read
 -- just so.
 use Rattle.std.specs.Prelude.{ℕ, ◌%◌, List, eqb, ltb}
 use Rattle.model.specs.declared.Item.{Item}

@@ -63,21 +63,22 @@ fn greater(a: Force, b: Force) -> Force
 
 // The areas at full pressure, and the least whole number of newtons that is not below the exact force: the greatest of
 // the formula's values at full pressure and in the lesser winds, of which there are none without supercritical members.
-// A turn works one wind p out, in which the areas are `here`; groups from `next` on are still to be looked at.
-pub fn section_load(
+// `areas` are those at full pressure. A turn works one wind p out, in which they are `here`; groups from `next` on are
+// still to be looked at.
+pub fn measured_load(
     legs: Legs,
     k: u32,
     t: Length,
     factor: u32,
     s: Section,
     q: u16,
+    areas: Areas,
     items: u64,
 ) -> Load
-    requires { (fits_under t s ≡ true) × (factor ≤ 2000) × (q ≤ 5000) × (items ≤ largest_items) }
+    requires { (fits_under t s ≡ true) × (factor ≤ 2000) × (q ≤ 5000) × (items ≤ largest_items) × (areas ≡ areas_of t q (section_of s).groups) }
     ensures { (result.areas ≡ areas_of t q (section_of s).groups) × Least (exact_force legs k t factor (section_of s) q items) result.force.0 }
 {
     let gross = areas::section::gross_area(s);
-    let areas = section_areas(t, q, s);
     let mut here = areas;
     let mut force = Force(0);
     let mut p = q;
@@ -98,4 +99,21 @@ pub fn section_load(
         here = section_areas(t, p, s);
         next = wind.group + 1;
     }
+}
+
+// The same, with the areas at full pressure worked out.
+pub fn section_load(
+    legs: Legs,
+    k: u32,
+    t: Length,
+    factor: u32,
+    s: Section,
+    q: u16,
+    items: u64,
+) -> Load
+    requires { (fits_under t s ≡ true) × (factor ≤ 2000) × (q ≤ 5000) × (items ≤ largest_items) }
+    ensures { (result.areas ≡ areas_of t q (section_of s).groups) × Least (exact_force legs k t factor (section_of s) q items) result.force.0 }
+{
+    let areas = section_areas(t, q, s);
+    measured_load(legs, k, t, factor, s, q, areas, items)
 }

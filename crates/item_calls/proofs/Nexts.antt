@@ -1,12 +1,12 @@
 -- Where hang or take down is accepted there are slots that meet its promise.
-use Prim.Native.Nat.{ℕ, ◌+◌, ◌^◌, ◌≤◌, ◌<◌}
+use Prim.Native.Nat.{ℕ, ◌+◌, ◌≤◌, ◌<◌}
 use mathlib.Core.Path.{◌≡◌, refl, ap, sym, ◌∙◌}
 use mathlib.Core.Bool.{Bool, true, false, not}
 use mathlib.Core.List.{List, [], ◌++◌}
 use native.Mathlib.Omega.{arith}
 use lib.ListN.{length, take, drop, set, length-append, length-drop, take-append-drop}
 use lib.Seq.{length-take-le, take_at, drop_at}
-use borrow.Author.Tests.{lt-ltb, not-false}
+use borrow.Author.Tests.{not-false}
 use Rattle.model.specs.declared.Item.{Item}
 use Rattle.model.specs.Answers.{accepts}
 use Rattle.model.specs.Lists.{kept, all_of}
@@ -21,6 +21,7 @@ use Rattle.slots.specs.Held.{Slots, slot, is_standing, held_in, items_in, slot_o
 use Rattle.slots.specs.Nexts.{typed_slot, TypedSlots, Next}
 use Rattle.slots.proofs.Codec.{item_back}
 use Rattle.slots.proofs.Grounds.{standing-as, held-few, item_count}
+use Rattle.slots.proofs.TypedSlots.{item-typed}
 use Rattle.slots.proofs.Nexts.{next-cell, typed-cell, slot-typed, typed-set, stands-if}
 use Rattle.item_calls.specs.Places.{ClosedUp}
 use Rattle.item_calls.proofs.Numbers.{has_another, items-long}
@@ -40,19 +41,6 @@ free_of : (c : Call) (l : Slots) → is_standing l ≡ true → refusal_of (stat
 free_of c l s z = ap (λ (m : State). refusal_of m c) (sym (standing-as l s)) ∙ z
 
 -- hang
-slot-of-typed : (it : Item) → typed_item it ≡ true → typed_slot (slot_of it) ≡ true
-slot-of-typed it h =
-    let b = item-bounds it h in
-    rw (
-      lt-ltb it.number (2 ^ 32) (omega (arith, b.number)),
-      lt-ltb it.section (2 ^ 32) (omega (arith, b.section)),
-      lt-ltb it.width.0 (2 ^ 32) b.width,
-      lt-ltb it.length.0 (2 ^ 32) b.length,
-      lt-ltb it.bare (2 ^ 32) (omega (arith, b.bare)),
-      lt-ltb it.iced (2 ^ 32) (omega (arith, b.iced)),
-      lt-ltb it.position (2 ^ 32) (omega (arith, b.position)),
-    )
-
 pub hang-next : (l : Slots) → TypedSlots l → (it : Item) → typed_item it ≡ true → refusal_of (state_of l) (hang it) ≡ 0
     → Next (hang it) l (accepts []) []
 hang-next l t it typed z =
@@ -62,7 +50,7 @@ hang-next l t it typed z =
     let b : _ = item-bounds it typed in
     let room : held_in l < 64 = omega (arith, f.room, item_count l t.long) in
     let stored : Slots = set l (65 + held_in l) (slot_of it) in
-    let u : TypedSlots stored = typed-set l t (65 + held_in l) (slot_of it) (slot-of-typed it typed) in
+    let u : TypedSlots stored = typed-set l t (65 + held_in l) (slot_of it) (item-typed it typed) in
     record {
       after = set stored 0 (recount stored (held_in l + 1));
       meets =

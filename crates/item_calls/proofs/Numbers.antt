@@ -4,8 +4,10 @@ use mathlib.Core.Path.{◌≡◌, refl, ap, sym, ◌∙◌}
 use mathlib.Core.Bool.{Bool, true, false, not, cond, ◌||◌}
 use mathlib.Core.List.{List, [], ◌∷◌, map}
 use native.Mathlib.Omega.{arith}
+use lib.Dec.{eqb}
 use lib.ListN.{length, take, drop, get_or, length-drop}
 use lib.Seq.{get_or-drop}
+use borrow.Author.Tests.{eq-eqb, ne_eqb}
 use Rattle.model.specs.declared.Item.{Item}
 use Rattle.model.specs.Lists.{kept, any_of}
 use Rattle.model.specs.File.{numbered, fields_in_range}
@@ -48,6 +50,13 @@ module _ (l : Slots) (long : length l ≡ 129) where
 
   pub has-it : (n k i : ℕ) → i < k → k ≤ 64 → has_number n (slot l (65 + i)) ≡ true → any_of (has_number n) (take k (drop 65 l)) ≡ true
   has-it n k i h g e = any-holds (has_number n) (drop 65 l) k i [] h (omega (arith, items-long)) (rw (get_or-drop 65 l i) e)
+
+-- the number of a slot as it was read is the one that is sought, or another
+pub same_read : {n m r : ℕ} → r ≡ m → r ≡ n → eqb m n ≡ true
+same_read e h = eq-eqb _ _ (sym e ∙ h)
+
+pub other_read : {n m r : ℕ} → r ≡ m → (r ≡ n → ⊥) → eqb m n ≡ false
+other_read e h = ne_eqb _ _ (λ z. h (e ∙ z))
 
 -- whether a number is held, by the number of items that was read
 pub told : (l : Slots) (number : ℕ) {n : ℕ} {r x : Bool} → n ≡ held_in l → r ≡ numbered number (items_to l n) → r ≡ x

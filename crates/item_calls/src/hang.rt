@@ -9,8 +9,8 @@ ghost use Rattle.slots.specs.Promises.{Meets};
 use areas::ranges::fields_in_range;
 use model::{Answer, Item, Refusal};
 use slots::Slot;
-use slots::head::{count_in, held_in, is_standing, with_cell};
-use slots::items::item_slot;
+use slots::head::{count_in, held_in, is_standing, with_held};
+use slots::items::{item_slot, number_at};
 
 // Whether one of the first items has the number.
 fn is_numbered(s: &[Slot], number: u16, held: usize) -> bool
@@ -18,9 +18,7 @@ fn is_numbered(s: &[Slot], number: u16, held: usize) -> bool
     ensures { result ≡ numbered number (items_to s.now held) }
 {
     for i in 0usize..held {
-        let at = 65 + i;
-        let x = s[at][0];
-        if x % 65_536 == number as u32 {
+        if number_at(s, i) == number {
             return true;
         }
     }
@@ -52,7 +50,7 @@ pub fn hang(s: &mut [Slot], item: Item) -> Answer
     let at = 65 + held;
     s[at] = slot;
     let head = s[0];
-    let more = with_cell(head, 3, held as u32 + 1);
+    let more = with_held(head, held + 1);
     s[0] = more;
     Answer::Accepted
 }

@@ -8,7 +8,8 @@ ghost use Rattle.item_calls.specs.Places.{has_number, Placed, ClosedUp};
 
 use model::{Answer, Refusal};
 use slots::Slot;
-use slots::head::{held_in, is_standing, with_cell};
+use slots::head::{held_in, is_standing, with_held};
+use slots::items::number_at;
 
 // The place of the first item with the number, or how many items there are.
 fn place_of(s: &[Slot], number: u16, held: usize) -> usize
@@ -16,9 +17,7 @@ fn place_of(s: &[Slot], number: u16, held: usize) -> usize
     ensures { Placed number held s.now result }
 {
     for i in 0usize..held {
-        let at = 65 + i;
-        let x = s[at][0];
-        if x % 65_536 == number as u32 {
+        if number_at(s, i) == number {
             return i;
         }
     }
@@ -32,10 +31,9 @@ fn close_up(s: &mut [Slot], number: u16, place: usize, held: usize) -> usize
 {
     let mut n: usize = place;
     for i in place..held {
-        let from = 65 + i;
-        let slot = s[from];
-        let x = slot[0];
-        if x % 65_536 != number as u32 {
+        if number_at(s, i) != number {
+            let from = 65 + i;
+            let slot = s[from];
             let to = 65 + n;
             s[to] = slot;
             n += 1;
@@ -59,7 +57,7 @@ pub fn take_down(s: &mut [Slot], number: u16) -> Answer
     }
     let rest = close_up(s, number, place, held);
     let head = s[0];
-    let next = with_cell(head, 3, rest as u32);
+    let next = with_held(head, rest);
     s[0] = next;
     Answer::Accepted
 }

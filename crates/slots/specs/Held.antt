@@ -43,6 +43,10 @@ count_in l = at_most 32 (cell l 0 2)
 unfoldable pub held_in : Slots → ℕ
 held_in l = at_most 64 (cell l 0 3)
 
+-- an item's number, which its slot tells whatever its other cells
+abbrev pub number_in : List ℕ → ℕ
+number_in r = get_or r 0 0 % 65_536
+
 -- an item, and the slot that it is kept in
 abbrev pub item_in : List ℕ → Item
 item_in r =

@@ -47,6 +47,14 @@ pub fn held_in(s: &[Slot]) -> usize
     n as usize
 }
 
+// Slot 0 with another number of items.
+pub fn with_held(head: Slot, n: usize) -> Slot
+    requires { n ≤ 64 }
+    ensures { NextCell head 3 n result }
+{
+    with_cell(head, 3, n as u32)
+}
+
 // A slot with another number in one cell.
 pub fn with_cell(slot: Slot, j: usize, x: u32) -> Slot
     requires { j < 12 }

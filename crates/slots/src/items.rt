@@ -1,14 +1,24 @@
 // Items in slots.
-ghost use Rattle.std.specs.Prelude.{◌≡◌, true, ◌≤◌, length};
+ghost use Rattle.std.specs.Prelude.{◌≡◌, true, ◌+◌, ◌≤◌, ◌<◌, length};
 ghost use Rattle.model.specs.File.{fields_in_range};
 ghost use Rattle.areas.specs.Sums.{ItemSums};
-ghost use Rattle.slots.specs.Held.{item_in, no_force, item_of, items_to, slot_of};
+ghost use Rattle.slots.specs.Held.{slot, number_in, item_in, no_force, item_of, items_to, slot_of};
 
 use crate::Slot;
 use areas::items::item_part;
 use areas::ranges::fields_in_range;
 use model::Item;
 use units::Length;
+
+// The number of the item at this place.
+pub fn number_at(s: &[Slot], i: usize) -> u16
+    requires { (length s.now ≡ 129) × (i < 64) }
+    ensures { result ≡ number_in (slot s.now (65 + i)) }
+{
+    let at = 65 + i;
+    let x = s[at][0] % 65_536;
+    x as u16
+}
 
 fn item_in(r: Slot) -> Item
     ensures { result ≡ item_in r }
@@ -54,6 +64,16 @@ pub fn item_of(r: Slot) -> Item
     no_force(it)
 }
 
+// The item at this place.
+pub fn item_at(s: &[Slot], i: usize) -> Item
+    requires { (length s.now ≡ 129) × (i < 64) }
+    ensures { (result ≡ item_of (slot s.now (65 + i))) × (fields_in_range result ≡ true) }
+{
+    let at = 65 + i;
+    let slot = s[at];
+    item_of(slot)
+}
+
 // The slot of an item that is in its ranges: it stands for the item.
 pub fn item_slot(it: Item) -> Slot
     requires { fields_in_range it ≡ true }
@@ -82,9 +102,7 @@ pub fn item_sums(s: &[Slot], t: Length, held: usize) -> [u64; 32]
 {
     let mut sums = [0u64; 32];
     for i in 0usize..held {
-        let at = 65 + i;
-        let slot = s[at];
-        let it = item_of(slot);
+        let it = item_at(s, i);
         let hung = it.section as usize;
         if hung < 32 {
             let so_far = sums[hung];

@@ -6,7 +6,7 @@ ghost use Rattle.model.specs.Bytes.{kind_of};
 ghost use Rattle.model.specs.Areas.{size_of};
 ghost use Rattle.model.specs.Valid.{section_fits};
 ghost use Rattle.areas.specs.Fits.{fits_under};
-ghost use Rattle.slots.specs.Held.{at_most, group_in, groups_in, group_number, section_in, section_at, field_slot, group_slot, least_section, PutSection};
+ghost use Rattle.slots.specs.Held.{at_most, group_in, groups_in, group_number, section_in, section_as, section_at, field_slot, group_slot, least_section, PutSection};
 
 use crate::Slot;
 use areas::ranges::{fits_under, group_fits};
@@ -105,16 +105,24 @@ fn section_in(a: Slot, b: Slot) -> Section
     }
 }
 
-// Section i, or the least one where its slots are out of range or too solid under ice of thickness t.
-pub fn section_at(s: &[Slot], t: Length, i: usize) -> Section
-    requires { (length s.now ≡ 129) × (t.0 ≤ 50) × (i < 32) }
-    ensures { (tower.section_of result ≡ section_at s.now t i) × (fits_under t result ≡ true) }
+// Section i as its slots have it, in its ranges or not.
+pub fn section_as(s: &[Slot], i: usize) -> Section
+    requires { (length s.now ≡ 129) × (i < 32) }
+    ensures { (tower.section_of result ≡ section_as s.now i) × (result.count ≤ 8) }
 {
     let at = 1 + 2 * i;
     let next = at + 1;
     let a = s[at];
     let b = s[next];
-    let x = section_in(a, b);
+    section_in(a, b)
+}
+
+// Section i, or the least one where its slots are out of range or too solid under ice of thickness t.
+pub fn section_at(s: &[Slot], t: Length, i: usize) -> Section
+    requires { (length s.now ≡ 129) × (t.0 ≤ 50) × (i < 32) }
+    ensures { (tower.section_of result ≡ section_at s.now t i) × (fits_under t result ≡ true) }
+{
+    let x = section_as(s, i);
     if fits_under(t, x) {
         return x;
     }

@@ -2,7 +2,7 @@
 ghost use Rattle.std.specs.Prelude.{◌≡◌, ◌&&◌, ◌≤◌, ◌<◌, length};
 ghost use Rattle.model.specs.Machine as machine;
 ghost use Rattle.model.specs.Ranges as ranges;
-ghost use Rattle.slots.specs.Held.{ground_of, is_windy, ice_on};
+ghost use Rattle.slots.specs.Held.{cell, ground_of, is_windy, ice_on};
 ghost use Rattle.slots.specs.Held as held;
 
 use crate::Slot;
@@ -59,6 +59,29 @@ pub fn ice_on(s: &[Slot]) -> Length
     }
     let ice = s[0][6];
     thickness(ice)
+}
+
+// Direction, ice class and structure factor.
+#[derive(Clone, Copy)]
+pub struct WindNumbers {
+    pub direction: u32,
+    pub ice: u32,
+    pub factor: u32,
+}
+
+// As they stand in slot 0.
+pub fn wind_numbers(s: &[Slot]) -> WindNumbers
+    requires { length s.now ≡ 129 }
+    ensures { (result.direction ≡ cell s.now 0 5) × (result.ice ≡ cell s.now 0 6) × (result.factor ≡ cell s.now 0 7) }
+{
+    let direction = s[0][5];
+    let ice = s[0][6];
+    let factor = s[0][7];
+    WindNumbers {
+        direction,
+        ice,
+        factor,
+    }
 }
 
 // The pressure on section i.

@@ -12,7 +12,7 @@ returns-then-held_in-eq0 c =
 
 pub returns : goal.returns
 returns c =
-    c.item_of.ensures.0
+    c.item_at.ensures.0
     ∙ sym
     (first-held _ (sym c.is_standing.ensures ∙ c.if-not-is_standing.false) (search rules)
     (omega (arith, c.held_in.ensures.0, c.if-held_in-eq0.false)))

@@ -1,7 +1,7 @@
 use Rattle.std.proofs.Common.{◌≡◌, refl, ◌∙◌, length, arith, rules}
 use Rattle.model.proofs.Lists.{length-mapped}
 use Rattle.areas.proofs.Facts.{no_group}
-use Rattle.areas.proofs.LesserPressures.{one-is, get_d_any, covered_more}
+use Rattle.areas.proofs.LesserPressures.{one-is, get_or-any, covered_more}
 use Rattle.areas.proofs.lesser.next_wind.Goals as goal
 
 pub returns-then-not-is_needless : goal.returns-then-not-is_needless
@@ -16,7 +16,7 @@ returns-then-not-is_needless c =
       last = λ e. absurd (omega (arith, more));
       found = λ h. omega arith;
       lesser = λ h d.
-          rw (get_d_any a.s.groups c.loop-i.i d no_group (omega arith)) c.lesser_pressure-p.ensures.0
+          rw (get_or-any a.s.groups c.loop-i.i d no_group (omega arith)) c.lesser_pressure-p.ensures.0
           ∙ one-is h;
       small = c.lesser_pressure-p.ensures.1;
     }
@@ -28,7 +28,7 @@ loop-i-preserved c =
     covered_more a.t a.q a.s.groups a.from c.loop-i.i c.loop-i.invariant
     (record {
       pressure = c.lesser_pressure-p.result;
-      lesser = λ d. rw (get_d_any a.s.groups c.loop-i.i d no_group (omega arith)) c.lesser_pressure-p.ensures.0;
+      lesser = λ d. rw (get_or-any a.s.groups c.loop-i.i d no_group (omega arith)) c.lesser_pressure-p.ensures.0;
       needless = c.is_needless.ensures.0 c.if-not-is_needless.false;
     })
 

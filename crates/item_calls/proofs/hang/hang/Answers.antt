@@ -58,4 +58,4 @@ returns c =
     let on : it.section < count_in l = omega arith in
     let good : fields_in_range it ≡ true = sym c.fields_in_range.ensures ∙ c.if-not-fields_in_range.false in
     let back : item_of (slot_of it) ≡ it = item_back it (search rules) (search rules) (search rules) (search rules) (search rules) good in
-    hang-stored l c.requires up it room back (hang-free l c.requires up it room new on good) c.held_in-held.ensures.0 c.item_slot-slot.ensures.0 c.with_cell-more.ensures
+    hang-stored l c.requires up it room back (hang-free l c.requires up it room new on good) c.held_in-held.ensures.0 c.item_slot-slot.ensures.0 c.with_held-more.ensures

@@ -1,19 +1,18 @@
-use Rattle.std.proofs.Common.{◌≡◌, ◌<◌, sym, ◌∙◌, arith, take, drop, eq-eqb}
-use borrow.Author.Tests.{ne_eqb}
-use Rattle.item_calls.proofs.Numbers.{slots-numbered, has_more, has-it}
+use Rattle.std.proofs.Common.{◌≡◌, ◌<◌, sym, ◌∙◌, arith, take, drop}
+use Rattle.item_calls.proofs.Numbers.{slots-numbered, has_more, has-it, same_read, other_read}
 use Rattle.item_calls.proofs.hang.is_numbered.Goals as goal
 
-pub returns-then-x-number : goal.returns-then-x-number
-returns-then-x-number c =
+pub returns-then-number_at-number : goal.returns-then-number_at-number
+returns-then-number_at-number c =
     let l = c.args.s.now in
     let h : c.loop-i.i < c.args.held = omega arith in
     sym (slots-numbered c.args.number (take c.args.held (drop 65 l))
-    ∙ has-it l c.requires.0 c.args.number c.args.held c.loop-i.i h c.requires.1 (eq-eqb _ _ c.if-x-number.true))
+    ∙ has-it l c.requires.0 c.args.number c.args.held c.loop-i.i h c.requires.1 (same_read c.number_at.ensures c.if-number_at-number.true))
 
 pub loop-i-preserved : goal.loop-i-preserved
 loop-i-preserved c =
     has_more c.args.s.now c.requires.0 c.args.number c.loop-i.i (omega arith)
-    ∙ rw c.loop-i.invariant (ne_eqb _ _ c.if-x-number.false)
+    ∙ rw c.loop-i.invariant (other_read c.number_at.ensures c.if-number_at-number.false)
 
 pub returns : goal.returns
 returns c =

@@ -26,4 +26,4 @@ returns c =
     let b = c.args in
     down-closed b.s.now c.requires (sym c.is_standing.ensures ∙ c.if-not-is_standing.false) b.number
     (told b.s.now b.number c.held_in-held.ensures.0 c.place_of-place.ensures.there (lt-ltb _ _ c.if-held-place.false))
-    c.held_in-held.ensures.0 c.close_up-rest.ensures c.with_cell-next.ensures
+    c.held_in-held.ensures.0 c.close_up-rest.ensures c.with_held-next.ensures

@@ -15,8 +15,8 @@ loop-i-preserved c =
     let slots = c.args.s.now in
     let h : c.loop-i.i < 64 = omega arith in
     elim c.if-hung-lt32.branch [
-      | then-hung-lt32 w ↦ rw w.sums-is (item_on slots c.requires.0 c.args.t c.loop-i.i h c.loop-i.invariant c.item_of-it.ensures.0 w.item_part.ensures.0 w.item_part.ensures.1 w.if-hung-lt32.true)
-      | else-hung-lt32 w ↦ rw w.sums-is (item-off slots c.requires.0 c.args.t c.loop-i.i h c.loop-i.invariant c.item_of-it.ensures.0 w.if-hung-lt32.false)
+      | then-hung-lt32 w ↦ rw w.sums-is (item_on slots c.requires.0 c.args.t c.loop-i.i h c.loop-i.invariant c.item_at-it.ensures.0 w.item_part.ensures.0 w.item_part.ensures.1 w.if-hung-lt32.true)
+      | else-hung-lt32 w ↦ rw w.sums-is (item-off slots c.requires.0 c.args.t c.loop-i.i h c.loop-i.invariant c.item_at-it.ensures.0 w.if-hung-lt32.false)
     ]
 
 pub returns : goal.returns

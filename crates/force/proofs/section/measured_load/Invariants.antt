@@ -2,7 +2,7 @@ use Rattle.std.proofs.Common.{◌≡◌, ◌+◌, ◌-◌}
 use Rattle.model.specs.Areas.{areas_of}
 use Rattle.model.specs.Tower.{section_of}
 use Rattle.force.proofs.Greatest.{Turn}
-use Rattle.force.proofs.section.section_load.Given as goal
+use Rattle.force.proofs.section.measured_load.Given as goal
 
 abbrev pub invariant-loop-legs : goal.invariant-loop-legs
 invariant-loop-legs l =
