@@ -9,11 +9,7 @@ use lib.Dec.{eqb, lit<, lit≤}
 use lib.ListN.{length, get_or}
 use borrow.Author.Count.{below_more}
 use borrow.Author.Tests.{eqb-false, ltb-true, lt-ltb, ne_eqb, not-true}
-use Rattle.model.specs.declared.Answer.{Answer}
-use Rattle.model.specs.declared.Answer.TheVariants as answer
-use Rattle.model.specs.declared.CheckAnswer.TheVariants as check
-use Rattle.model.specs.declared.WriteAnswer.{WriteAnswer}
-use Rattle.model.specs.declared.WriteAnswer.TheVariants as write
+use Rattle.std.specs.Prelude.{Some, None, Result, Ok, Err, ⊤}
 use Rattle.model.specs.declared.Refusal.{Refusal}
 use Rattle.model.specs.declared.Refusal.TheVariants as refusal
 use Rattle.model.specs.Answers.{Reply, accepts, refuses, refusal_number, highest_refusal, answer_reply, answer_number, check_reply, write_reply}
@@ -117,9 +113,9 @@ refusal-place r = (refusal-numbered r).2
 pub highest-reached : refusal_number refusal.OutputShort ≡ highest_refusal
 highest-reached = refl
 
-pub answer-highest : (a : Answer) → answer_number a ≤ highest_refusal
-answer-highest answer.Accepted = lit≤ tt
-answer-highest (answer.Refused r) = refusal-highest r
+pub answer-highest : (a : Result ⊤ Refusal) → answer_number a ≤ highest_refusal
+answer-highest (Ok _) = lit≤ tt
+answer-highest (Err r) = refusal-highest r
 
 -- the reply to a call: of one that is accepted, of one that is turned down, of one that answers a number alone
 same-reply : {n k : ℕ} {v u : List ℕ} → n ≡ k → v ≡ u → ◌≡◌ {A = Reply} (record { number = n; values = v }) (record { number = k; values = u })
@@ -132,43 +128,43 @@ module _ (m : State) (c : Call) where
   pub refused-reply : (r : Refusal) → refusal_number r ≡ refusal_of m c → reply_of m c ≡ refuses r
   refused-reply r e = same-reply (sym e) (refused-values m c (λ (z : refusal_of m c ≡ 0). omega (arith, refusal-positive r)))
 
-  pub number-reply : (a : Answer) → (meaning m c).values ≡ [] → answer_number a ≡ refusal_of m c → reply_of m c ≡ answer_reply a
-  number-reply answer.Accepted v e = same-reply (sym e) (no-values m c v)
-  number-reply (answer.Refused r) v e = same-reply (sym e) (no-values m c v)
+  pub number-reply : (a : Result ⊤ Refusal) → (meaning m c).values ≡ [] → answer_number a ≡ refusal_of m c → reply_of m c ≡ answer_reply a
+  number-reply (Ok _) v e = same-reply (sym e) (no-values m c v)
+  number-reply (Err r) v e = same-reply (sym e) (no-values m c v)
 
 -- the section that check names is the topmost over; it says that none is over exactly if none is
 module _ {t : Tower} {w : Wind} where
-  pub over-reply : {i : ℕ} → TopmostOver t w i → reply_of (standing t (some w)) call.check ≡ check_reply (check.Over i)
+  pub over-reply : {i : ℕ} → TopmostOver t w i → reply_of (standing t (some w)) call.check ≡ check_reply (Ok (Some i))
   over-reply h = ap accepts (topmost-is h)
 
-  pub none-reply : ((i : ℕ) → IsOver t w i → ⊥) → reply_of (standing t (some w)) call.check ≡ check_reply check.NoneOver
+  pub none-reply : ((i : ℕ) → IsOver t w i → ⊥) → reply_of (standing t (some w)) call.check ≡ check_reply (Ok None)
   none-reply h = ap accepts (topmost-none h)
 
-  pub reply-over : {i : ℕ} → reply_of (standing t (some w)) call.check ≡ check_reply (check.Over i) → TopmostOver t w i
+  pub reply-over : {i : ℕ} → reply_of (standing t (some w)) call.check ≡ check_reply (Ok (Some i)) → TopmostOver t w i
   reply-over e = is-topmost (ap (λ (r : Reply). r.values) e)
 
-  pub check-over : {i : ℕ} → reply_of (standing t (some w)) call.check ≡ check_reply (check.Over i) → Over t w i
+  pub check-over : {i : ℕ} → reply_of (standing t (some w)) call.check ≡ check_reply (Ok (Some i)) → Over t w i
   check-over e = over-only (reply-over e).is-over
 
-  pub check-topmost : {i : ℕ} → reply_of (standing t (some w)) call.check ≡ check_reply (check.Over i) → (j : ℕ) → j < i → Over t w j → ⊥
+  pub check-topmost : {i : ℕ} → reply_of (standing t (some w)) call.check ≡ check_reply (Ok (Some i)) → (j : ℕ) → j < i → Over t w j → ⊥
   check-topmost e j k g = (reply-over e).none_above j k (over-if g)
 
-  pub check-none : reply_of (standing t (some w)) call.check ≡ check_reply check.NoneOver → (i : ℕ) → Over t w i → ⊥
+  pub check-none : reply_of (standing t (some w)) call.check ≡ check_reply (Ok None) → (i : ℕ) → Over t w i → ⊥
   check-none e i g = none-topmost (ap (λ (r : Reply). r.values) e) i (over-if g)
 
-pub check-refused : (m : State) (r : Refusal) → reply_of m call.check ≡ check_reply (check.Refused r) → refusal_number r ≡ check_refusal m
+pub check-refused : (m : State) (r : Refusal) → reply_of m call.check ≡ check_reply (Err r) → refusal_number r ≡ check_refusal m
 check-refused m r e = sym (ap (λ (x : Reply). x.number) e)
 
 -- write answers the file's length, and fills where there is room
 module _ (m : State) (lent : List ℕ) where
-  pub write-length : {n : ℕ} → reply_of m (call.write lent) ≡ write_reply (write.Written n)
+  pub write-length : {n : ℕ} → reply_of m (call.write lent) ≡ write_reply (Ok n)
       → (write_refusal m (length lent) ≡ 0) × (n ≡ length (file_in m))
   write-length {n} e =
       let z : write_refusal m (length lent) ≡ 0 = ap (λ (r : Reply). r.number) e in
       let k : n ∷ [] ≡ length (file_in m) ∷ [] = ap (λ (r : Reply). r.values) (sym e ∙ accepted-reply m (call.write lent) z) in
       (z, cc)
 
-  pub write-room : (r : WriteAnswer) → write_refusal m (length lent) ≡ 0 → reply_of m (call.write lent) ≡ write_reply r
-      → r ≡ write.Written (length (file_in m))
-  write-room (write.Written n) z e = ap write.Written (write-length e).1
-  write-room (write.Refused r) z e = absurd (omega (arith, refusal-positive r, ap (λ (x : Reply). x.number) e))
+  pub write-room : (r : Result ℕ Refusal) → write_refusal m (length lent) ≡ 0 → reply_of m (call.write lent) ≡ write_reply r
+      → r ≡ Ok (length (file_in m))
+  write-room (Ok n) z e = ap Ok (write-length e).1
+  write-room (Err r) z e = absurd (omega (arith, refusal-positive r, ap (λ (x : Reply). x.number) e))

@@ -1,13 +1,7 @@
 -- Document 01, "When a call is turned down": the number of each refusal, and the number and values of each answer.
-use Rattle.std.specs.Prelude.{ℕ, List, [], ◌∷◌}
+use Rattle.std.specs.Prelude.{ℕ, List, [], ◌∷◌, Option, Some, None, Result, Ok, Err, ⊤}
 use Rattle.model.specs.declared.Refusal.{Refusal}
 use Rattle.model.specs.declared.Refusal.TheVariants as refusal
-use Rattle.model.specs.declared.Answer.{Answer}
-use Rattle.model.specs.declared.Answer.TheVariants as answer
-use Rattle.model.specs.declared.CheckAnswer.{CheckAnswer}
-use Rattle.model.specs.declared.CheckAnswer.TheVariants as check
-use Rattle.model.specs.declared.WriteAnswer.{WriteAnswer}
-use Rattle.model.specs.declared.WriteAnswer.TheVariants as write
 
 abbrev pub refusal_number : Refusal → ℕ
 refusal_number refusal.NoTower = 1
@@ -49,21 +43,21 @@ abbrev pub refuses : Refusal → Reply
 refuses r = record { number = refusal_number r; values = [] }
 
 -- the answer of erect, hang, take down, wind and report
-abbrev pub answer_reply : Answer → Reply
-answer_reply answer.Accepted = accepts []
-answer_reply (answer.Refused r) = refuses r
+abbrev pub answer_reply : Result ⊤ Refusal → Reply
+answer_reply (Ok _) = accepts []
+answer_reply (Err r) = refuses r
 
 -- the answer of check: a section, or none
-abbrev pub check_reply : CheckAnswer → Reply
-check_reply (check.Over i) = accepts (i ∷ [])
-check_reply check.NoneOver = accepts []
-check_reply (check.Refused r) = refuses r
+abbrev pub check_reply : Result (Option ℕ) Refusal → Reply
+check_reply (Ok (Some i)) = accepts (i ∷ [])
+check_reply (Ok None) = accepts []
+check_reply (Err r) = refuses r
 
 -- the answer of write: the length of the file
-abbrev pub write_reply : WriteAnswer → Reply
-write_reply (write.Written n) = accepts (n ∷ [])
-write_reply (write.Refused r) = refuses r
+abbrev pub write_reply : Result ℕ Refusal → Reply
+write_reply (Ok n) = accepts (n ∷ [])
+write_reply (Err r) = refuses r
 
 -- an answer that is a number alone
-abbrev pub answer_number : Answer → ℕ
+abbrev pub answer_number : Result ⊤ Refusal → ℕ
 answer_number a = (answer_reply a).number

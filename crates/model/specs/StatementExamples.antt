@@ -1,12 +1,9 @@
 -- Examples of the definitions that stand in the statements of the customer's demands and in no function's promise:
 -- arguments of their types, what is lent before a call, the outcome of each call, accepted, the tower newly erected, the
 -- sum of the arms, two reports under different pressures. No code fails where one of these is wrong, so an example does.
-use Rattle.std.specs.Prelude.{ℕ, ◌+◌, ◌≤◌, ◌<◌, ◌≡◌, true, not, List, [], ◌∷◌, ◌++◌, map, get_or, replicate}
+use Rattle.std.specs.Prelude.{ℕ, ◌+◌, ◌≤◌, ◌<◌, ◌≡◌, true, not, List, [], ◌∷◌, ◌++◌, map, get_or, replicate, Some, None, Ok, Err}
 use Rattle.std.proofs.Math.Option.{Option, none, some}
 use Rattle.model.specs.declared.Legs.TheVariants.{Four}
-use Rattle.model.specs.declared.Answer.TheVariants as answer
-use Rattle.model.specs.declared.CheckAnswer.TheVariants as check-answer
-use Rattle.model.specs.declared.WriteAnswer.TheVariants as write-answer
 use Rattle.model.specs.declared.Refusal.TheVariants as refusal
 use Rattle.model.specs.declared.Item.{Item}
 use Rattle.model.specs.Lists.{all_of}
@@ -58,17 +55,17 @@ told number values lent = record { reply = record { number = number; values = va
 -- one of every kind of answer that accepts, and of every kind that refuses
 unfoldable pub accepting : List Reply
 accepting =
-    answer_reply answer.Accepted
-    ∷ check_reply (check-answer.Over 1)
-    ∷ check_reply check-answer.NoneOver
-    ∷ write_reply (write-answer.Written 19)
+    answer_reply (Ok tt)
+    ∷ check_reply (Ok (Some 1))
+    ∷ check_reply (Ok None)
+    ∷ write_reply (Ok 19)
     ∷ []
 
 unfoldable pub refusing : List Reply
 refusing =
-    answer_reply (answer.Refused refusal.NoTower)
-    ∷ check_reply (check-answer.Refused refusal.NoWind)
-    ∷ write_reply (write-answer.Refused refusal.OutputShort)
+    answer_reply (Err refusal.NoTower)
+    ∷ check_reply (Err refusal.NoWind)
+    ∷ write_reply (Err refusal.OutputShort)
     ∷ []
 
 abbrev pub with_reply : Reply → Outcome

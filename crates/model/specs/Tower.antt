@@ -1,5 +1,5 @@
 -- Towers and winds of document 01, over lists; and what the values that programs hold are to it.
-use Rattle.std.specs.Prelude.{ℕ, List, map, take}
+use Rattle.std.specs.Prelude.{ℕ, List, map}
 use Rattle.units.specs.declared.Length.{Length}
 use Rattle.units.specs.declared.Force.{Force}
 use Rattle.model.specs.declared.Legs.{Legs}
@@ -7,6 +7,7 @@ use Rattle.model.specs.declared.Group.{Group}
 use Rattle.model.specs.declared.Item.{Item}
 use Rattle.model.specs.declared.Section as stored-section
 use Rattle.model.specs.declared.Tower as stored-tower
+use Rattle.model.specs.declared.Wind as stored-wind
 
 -- mean width b, height h, shear allowance, groups
 pub record Section : Type 0 where
@@ -28,20 +29,29 @@ pub record Wind : Type 0 where
   pub factor : ℕ
   pub pressures : List ℕ
 
--- the section and the tower that a program's value stands for: of its arrays the elements below the counts
+-- the section, the tower and the wind that a program's value stands for
 abbrev pub section_of : stored-section.Section → Section
 section_of s =
     record {
       width = s.width;
       height = s.height;
       allowance = s.allowance;
-      groups = take s.count s.groups;
+      groups = s.groups.items;
     }
 
 abbrev pub tower_of : stored-tower.Tower → Tower
 tower_of t =
     record {
       legs = t.legs;
-      sections = map section_of (take t.count t.sections);
-      items = take t.held t.items;
+      sections = map section_of t.sections.items;
+      items = t.items.items;
+    }
+
+abbrev pub wind_of : stored-wind.Wind → Wind
+wind_of w =
+    record {
+      direction = w.direction;
+      ice = w.ice;
+      factor = w.factor;
+      pressures = w.pressures.now;
     }

@@ -2,51 +2,72 @@
 // and says what each of these types means there; proofs/ has their laws.
 #![tactic(auto)]
 
+ghost use Rattle.std.specs.Prelude.{◌≡◌};
+ghost use Rattle.model.specs.Areas.{size_of};
+
+use arrayvec::ArrayVec;
 use units::{Area, Force, Length};
 
 pub mod numbers;
 pub mod ranges;
 
-// Numbers from low to high.
-#[derive(Clone, Copy)]
+// Numbers from low to high. std's RangeInclusive is an iterator, and is not Copy.
+#[derive(Clone, Copy, Debug, PartialEq, Eq, Hash)]
 pub struct Range {
     pub low: u32,
     pub high: u32,
 }
 
 // The legs of the tower; it has as many equal faces.
-#[derive(Clone, Copy)]
+#[derive(Clone, Copy, Debug, PartialEq, Eq, Hash)]
 pub enum Legs {
-    Three,
-    Four,
+    Three = 3,
+    Four = 4,
 }
 
 // A member of a face: flat with a width, or round with a diameter.
-#[derive(Clone, Copy)]
+#[derive(Clone, Copy, Debug, PartialEq, Eq, Hash)]
 pub enum Member {
     Flat(Length),
     Round(Length),
 }
 
+impl Member {
+    // The width or the diameter.
+    pub const fn size(self) -> Length
+        ensures { result ≡ size_of self }
+    {
+        match self {
+            Member::Flat(width) => width,
+            Member::Round(diameter) => diameter,
+        }
+    }
+}
+
+impl Default for Member {
+    fn default() -> Self {
+        Member::Flat(Length::default())
+    }
+}
+
 // Members of one kind and size, and their total length in one face.
-#[derive(Clone, Copy)]
+#[derive(Clone, Copy, Debug, PartialEq, Eq, Hash, Default)]
 pub struct Group {
     pub member: Member,
     pub length: Length,
 }
 
-// A section: mean width b, height h, shear allowance (0: none is stated), and its first `count` groups.
-#[derive(Clone, Copy)]
+// A section: mean width b, height h, shear allowance (0: none is stated), and its groups.
+#[derive(Debug, PartialEq, Eq, Default, Drop)]
 pub struct Section {
     pub width: Length,
     pub height: Length,
     pub allowance: Force,
-    pub count: usize,
-    pub groups: [Group; 8],
+    pub groups: ArrayVec<Group, 8>,
 }
 
 // An ancillary item: its number, the section that it hangs on, its size, and its coefficients and position factor K in thousandths.
-#[derive(Clone, Copy)]
+#[derive(Clone, Copy, Debug, PartialEq, Eq, Hash, Default)]
 pub struct Item {
     pub number: u16,
     pub section: u8,
@@ -57,18 +78,25 @@ pub struct Item {
     pub position: u16,
 }
 
-// Legs, the first `count` sections from the top, and the first `held` items in hanging order.
-#[derive(Clone, Copy)]
+// Legs, the sections from the top, and the items in hanging order.
+#[derive(Debug, PartialEq, Eq, Drop)]
 pub struct Tower {
     pub legs: Legs,
-    pub count: usize,
-    pub sections: [Section; 32],
-    pub held: usize,
-    pub items: [Item; 64],
+    pub sections: ArrayVec<Section, 32>,
+    pub items: ArrayVec<Item, 64>,
+}
+
+// The wind that a call sets: direction, ice class, structure factor in thousandths, and a pressure for each section.
+#[derive(Clone, Copy)]
+pub struct Wind<'a> {
+    pub direction: u32,
+    pub ice: u32,
+    pub factor: u32,
+    pub pressures: &'a [u16],
 }
 
 // The flow class of a member under a pressure.
-#[derive(Clone, Copy)]
+#[derive(Clone, Copy, Debug, PartialEq, Eq, Hash)]
 pub enum Flow {
     Flat,
     Subcritical,
@@ -76,17 +104,17 @@ pub enum Flow {
 }
 
 // A_f, A_c and A_p of a section's face.
-#[derive(Clone, Copy)]
+#[derive(Clone, Copy, Debug, PartialEq, Eq, Hash, Default)]
 pub struct Areas {
     pub flat: Area,
     pub subcritical: Area,
     pub supercritical: Area,
 }
 
-// Why a call is turned down. specs/Answers gives each its number in document 01.
-#[derive(Clone, Copy)]
+// Why a call is turned down, with its number in document 01.
+#[derive(Clone, Copy, Debug, PartialEq, Eq, Hash)]
 pub enum Refusal {
-    NoTower,
+    NoTower = 1,
     FileEnds,
     Legs,
     SectionCount,
@@ -108,26 +136,4 @@ pub enum Refusal {
     IcedSolidity,
     NoWind,
     OutputShort,
-}
-
-// The answer of erect, hang, take down, wind and report.
-#[derive(Clone, Copy)]
-pub enum Answer {
-    Accepted,
-    Refused(Refusal),
-}
-
-// The answer of check: the topmost section over its allowance, or that none is.
-#[derive(Clone, Copy)]
-pub enum CheckAnswer {
-    Over(usize),
-    NoneOver,
-    Refused(Refusal),
-}
-
-// The answer of write: the length of the file.
-#[derive(Clone, Copy)]
-pub enum WriteAnswer {
-    Written(usize),
-    Refused(Refusal),
 }

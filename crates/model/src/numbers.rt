@@ -4,64 +4,42 @@ ghost use Rattle.model.specs.Answers.{refusal_number, answer_number};
 ghost use Rattle.model.specs.Bytes.{legs_number};
 ghost use Rattle.model.specs.File.{legs_of};
 
-use crate::{Answer, Legs, Refusal};
+use crate::{Legs, Refusal};
 
 // How many answers there are: 0 for an accepted call, and the refusals' numbers.
 pub const ANSWERS: usize = 23;
 
 // Four for any number but 3.
-pub fn legs_of(n: u32) -> Legs
-    ensures { result ≡ legs_of n }
-{
-    if n == 3 {
-        return Legs::Three;
-    }
-    Legs::Four
-}
+impl From<u32> for Legs {
+    ghost from_gives = { λ n legs. legs ≡ legs_of n };
 
-pub fn legs_number(l: Legs) -> u64
-    ensures { result ≡ legs_number l }
-{
-    match l {
-        Legs::Three => 3,
-        Legs::Four => 4,
+    fn from(n: u32) -> Self {
+        if n == 3 { Legs::Three } else { Legs::Four }
     }
 }
 
-pub fn refusal_number(e: Refusal) -> u32
-    ensures { result ≡ refusal_number e }
-{
-    match e {
-        Refusal::NoTower => 1,
-        Refusal::FileEnds => 2,
-        Refusal::Legs => 3,
-        Refusal::SectionCount => 4,
-        Refusal::SectionSize => 5,
-        Refusal::GroupCount => 6,
-        Refusal::GroupField => 7,
-        Refusal::BareSolidity => 8,
-        Refusal::ItemCount => 9,
-        Refusal::ItemNumber => 10,
-        Refusal::ItemSection => 11,
-        Refusal::ItemField => 12,
-        Refusal::BytesFollow => 13,
-        Refusal::NoSuchItem => 14,
-        Refusal::Direction => 15,
-        Refusal::IceClass => 16,
-        Refusal::StructureFactor => 17,
-        Refusal::PressureCount => 18,
-        Refusal::Pressure => 19,
-        Refusal::IcedSolidity => 20,
-        Refusal::NoWind => 21,
-        Refusal::OutputShort => 22,
+impl From<Legs> for u64 {
+    ghost from_gives = { λ legs n. n ≡ legs_number legs };
+
+    fn from(legs: Legs) -> u64 {
+        legs as u64
     }
 }
 
-pub fn answer_number(a: Answer) -> u32
-    ensures { result ≡ answer_number a }
+impl From<Refusal> for u32 {
+    ghost from_gives = { λ refusal n. n ≡ refusal_number refusal };
+
+    fn from(refusal: Refusal) -> u32 {
+        refusal as u32
+    }
+}
+
+// The number of an answer that is a number alone.
+pub fn answer_number(answer: Result<(), Refusal>) -> u32
+    ensures { result ≡ answer_number answer }
 {
-    match a {
-        Answer::Accepted => 0,
-        Answer::Refused(e) => refusal_number(e),
+    match answer {
+        Ok(()) => 0,
+        Err(refusal) => u32::from(refusal),
     }
 }

@@ -59,8 +59,10 @@ pub const LARGEST_FORCE: u64 = 0x800_0000;
 // No item adds more to its section's sum; specs/Force has the same name.
 pub const LARGEST_ITEM: u64 = 3000 * 1000 * (3100 * 10_000);
 
-pub fn within(range: Range, x: u32) -> bool
-    ensures { result ≡ ranges.within range x }
-{
-    range.low <= x && x <= range.high
+impl Range {
+    pub const fn contains(self, x: u32) -> bool
+        ensures { result ≡ ranges.within self x }
+    {
+        self.low <= x && x <= self.high
+    }
 }
