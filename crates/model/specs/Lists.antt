@@ -1,19 +1,7 @@
 -- Tests and sums over lists.
-use Rattle.std.specs.Prelude.{ℕ, zero, suc, ◌+◌, Bool, cond, true, false, ◌&&◌, ◌||◌, List, [], ◌∷◌, ◌++◌}
-
--- the test holds of some, or of all
-abbrev pub any_of : {A : Type 0} → (A → Bool) → List A → Bool
-any_of p [] = false
-any_of p (x ∷ xs) = p x || any_of p xs
-
-abbrev pub all_of : {A : Type 0} → (A → Bool) → List A → Bool
-all_of p [] = true
-all_of p (x ∷ xs) = p x && all_of p xs
-
--- those of which the test holds, in their order
-abbrev pub kept : {A : Type 0} → (A → Bool) → List A → List A
-kept p [] = []
-kept p (x ∷ xs) = cond (p x) (x ∷ kept p xs) (kept p xs)
+use Rattle.std.specs.Prelude.{ℕ, zero, suc, ◌+◌, List, [], ◌∷◌, ◌++◌}
+-- the test holds of some, or of all; those of which it holds, in their order
+pub use Rattle.std.specs.List.{list_any as any_of, list_all as all_of, filter as kept}
 
 -- the lists of each, one after another
 unfoldable pub joined : {A B : Type 0} → (A → List B) → List A → List B

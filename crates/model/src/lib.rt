@@ -2,8 +2,8 @@
 // and says what each of these types means there; proofs/ has their laws.
 #![tactic(auto)]
 
-ghost use Rattle.std.specs.Prelude.{◌≡◌};
-ghost use Rattle.model.specs.Areas.{size_of};
+ghost use Rattle.std.specs.Prelude.{◌≡◌, ◌^◌, ◌<◌};
+ghost use Rattle.model.specs.Areas.{size_of, solid};
 
 use arrayvec::ArrayVec;
 use units::{Area, Force, Length};
@@ -109,6 +109,17 @@ pub struct Areas {
     pub flat: Area,
     pub subcritical: Area,
     pub supercritical: Area,
+}
+
+impl Areas {
+    // A_S: their sum.
+    #[tactic(auto, unfolding(crate::specs::Areas::solid))]
+    pub const fn solid(self) -> Area
+        requires { (solid self).0 < 2 ^ 64 }
+        ensures { result ≡ solid self }
+    {
+        Area(self.flat.0 + self.subcritical.0 + self.supercritical.0)
+    }
 }
 
 // Why a call is turned down, with its number in document 01.
