@@ -1,4 +1,4 @@
 pub mod Answered
-pub mod Loops
-pub mod Writing
 pub mod Fetched
+pub mod SoFar
+pub mod Writing

@@ -1,45 +1,68 @@
 -- What writers leave in the bytes that they are lent: part after part.
-use Prim.Native.Nat.{ℕ, suc, zero, ◌+◌, ◌-◌, ◌/◌, ◌%◌, ◌^◌, ◌<◌, ◌≤◌}
+use Prim.Native.Nat.{ℕ, suc, zero, ◌+◌, ◌-◌, ◌^◌, ◌<◌, ◌≤◌}
+use mathlib.Core.Logic.{⊎_elim}
 use mathlib.Core.Path.{◌≡◌, refl, ap, sym, subst, ◌∙◌}
-use mathlib.Core.List.{List, [], ◌∷◌, ◌++◌, map, append_assoc, append-nil}
-use native.Mathlib.Numerals.{add-one}
+use mathlib.Core.List.{List, [], ◌∷◌, ◌++◌, append_assoc, append-nil}
 use native.Mathlib.Omega.{arith}
-use native.Mathlib.Nat.{pow-suc, div-div-eq-div-mul, sub-zero}
-use lib.ListN.{length, take, drop, get_or, set, length-append, length-drop, take-append-drop, drop_of_length-le}
-use lib.Seq.{take_all, take_at, drop_at, drop-drop, length-take-le, take-suc, set_at}
+use native.Mathlib.Nat.{div-one, div-eq_of_lt, pow-le-pow_right, lt_of_lt_of_le}
+use lib.Dec.{lit≤}
+use lib.ListN.{length, take, drop, get_or, replicate, length-append, length-drop, drop_of_length-le}
+use lib.Seq.{take_all, take_at, drop_at, drop-drop, length-take-le}
 use borrow.Rule.Slice.PartMut.{put_mid, mid_of, post_of}
+use Rattle.std.proofs.lemmas.List.{take_more, length-replicate}
+use Rattle.exact.proofs.Order.{le-or-lt}
+use Rattle.std.specs.Int.{w64, to_be_bytes}
 use Rattle.model.specs.Lists.{joined}
 use Rattle.model.specs.Bytes.{bytes}
 use Rattle.model.proofs.FileLength.{length-bytes, joined-more}
 use Rattle.file_fields.specs.Written.{Puts}
 use Rattle.file_fields.proofs.Answered.{rest-is}
 
--- a field is written from its last byte to its first: what is held when the bytes from i on are written
-abbrev pub Tail : List ℕ → ℕ → ℕ → ℕ → List ℕ
-Tail d w v i = take i d ++ (bytes (w - i) v ++ drop w d)
-
-pub tail-start : (d : List ℕ) (w v : ℕ) → d ≡ Tail d w v w
+-- std's bytes of a number are document 01's, of which a narrower field has the last ones and a wider one has zeros before them
+high_bytes : (v : ℕ) → to_be_bytes w64 v ≡ bytes 8 v
 unfolding bytes
-tail-start d w v =
-    let z : w - w ≡ 0 = omega arith in
-    rw z (sym (take-append-drop w d))
+high_bytes v = rw div-one refl
 
-pub tail-next : (d : List ℕ) (w v i : ℕ) → 0 < i → i ≤ w → w ≤ length d → set (Tail d w v i) (i - 1) (v / 256 ^ (w - i) % 256) ≡ Tail d w v (i - 1)
+low_bytes : (v k n w : ℕ) → n ≡ k + w → drop k (bytes n v) ≡ bytes w v
 unfolding bytes
-tail-next d w v zero p h l = absurd (omega arith)
-tail-next d w v (suc i) p h l =
-    let e : suc i - 1 ≡ i = omega arith in
-    let k : w - i ≡ suc (w - suc i) = omega arith in
-    rw (e, k, take-suc d i 0 (omega arith), append_assoc (take i d) (get_or d i 0 ∷ []) (bytes (w - suc i) v ++ drop w d))
-    (set_at (take i d) (get_or d i 0) (bytes (w - suc i) v ++ drop w d) (v / 256 ^ (w - suc i) % 256) i (length-take-le i d (omega arith)))
+low_bytes v zero n w e = ap (λ (m : ℕ). bytes m v) (omega arith)
+low_bytes v (suc k) zero w e = absurd (omega arith)
+low_bytes v (suc k) (suc n) w e = low_bytes v k n w (omega arith)
 
-pub quotient-next : (w v i : ℕ) → 0 < i → i ≤ w → v / 256 ^ (w - i) / 256 ≡ v / 256 ^ (w - (i - 1))
-quotient-next w v i p h =
-    let k : w - (i - 1) ≡ suc (w - i) = omega arith in
-    rw (k, pow-suc 256 (w - i)) (div-div-eq-div-mul v (256 ^ (w - i)) 256)
+zero_bytes : (v k n : ℕ) → v < 256 ^ n → bytes (k + n) v ≡ replicate k 0 ++ bytes n v
+unfolding bytes
+zero_bytes v zero n h = ap (λ (m : ℕ). bytes m v) (omega arith)
+zero_bytes v (suc k) n h =
+    let below : v < 256 ^ (k + n) = lt_of_lt_of_le h (pow-le-pow_right {n = 256} (lit≤ tt) {i = n} {j = k + n} (omega arith)) in
+    let longer : suc k + n ≡ suc (k + n) = omega arith in
+    rw (longer, div-eq_of_lt below) (ap (λ (m : List ℕ). 0 ∷ m) (zero_bytes v k n h))
 
-pub tail-done : (d : List ℕ) (w v : ℕ) → Puts (bytes w v) d (Tail d w v 0) w
-tail-done d w v = record { count = sym (length-bytes w v); bytes = rw (length-bytes, sub-zero w) refl }
+field_bytes : (w v z : ℕ) → v < 2 ^ 64 → z ≡ w - 8
+    → replicate z 0 ++ take (8 - (8 - (w - z))) (drop (8 - (w - z)) (to_be_bytes w64 v)) ≡ bytes w v
+field_bytes w v z h e = rw high_bytes (⊎_elim narrow wide (le-or-lt w 8))
+  where
+    narrow : w ≤ 8 → replicate z 0 ++ take (8 - (8 - (w - z))) (drop (8 - (w - z)) (bytes 8 v)) ≡ bytes w v
+    narrow l =
+        let none : z ≡ 0 = omega arith in
+        rw (none, low_bytes v (8 - (w - 0)) 8 w (omega arith)) (take_all _ (bytes w v) (omega (arith, length-bytes w v)))
+
+    wide : 8 < w → replicate z 0 ++ take (8 - (8 - (w - z))) (drop (8 - (w - z)) (bytes 8 v)) ≡ bytes w v
+    wide l =
+        let eight : w - z ≡ 8 = omega arith in
+        let whole : z + 8 ≡ w = omega arith in
+        rw (eight, take_all 8 (bytes 8 v) (omega (arith, length-bytes 8 v)), ← whole) (sym (zero_bytes v z 8 h))
+
+-- a field: zeros in front, then the low bytes of its number
+pub puts-field : (w v z : ℕ) (d f g b : List ℕ) → w ≤ length d → v < 2 ^ 64 → z ≡ w - 8 → f ≡ replicate (length (take z d)) 0 → b ≡ to_be_bytes w64 v
+    → g ≡ take (8 - (8 - (w - z))) (drop (8 - (w - z)) b) → Puts (bytes w v) d (put_mid z (w - z) (f ++ drop z d) g) w
+puts-field w v z d f g b l h e zeros high low =
+    let n : length (take z d) ≡ z = length-take-le z d (omega arith) in
+    let m : length f ≡ z = ap length zeros ∙ length-replicate _ 0 ∙ n in
+    let t : take z (f ++ drop z d) ≡ f = take_at f (drop z d) z m in
+    let behind : drop (w - z) (drop z (f ++ drop z d)) ≡ drop w d =
+    ap (drop (w - z)) (drop_at f (drop z d) z m) ∙ drop-drop (w - z) z d ∙ ap (λ (k : ℕ). drop k d) (omega arith) in
+    let all : f ++ g ≡ bytes w v = rw (zeros, n, low, high) (field_bytes w v z h e) in
+    record { count = sym (length-bytes w v); bytes = rw (t, behind, length-bytes, ← append_assoc, all) refl }
 
 -- the part from n on
 rest-long : (x : List ℕ) (n : ℕ) → length (mid_of n (length x - n) x) ≡ length x - n
@@ -74,58 +97,29 @@ pub record Room (w : ℕ) (d x : List ℕ) (n : ℕ) : Type 0 where
 
 -- parts of one kind, in a loop
 module _ {A : Type 0} (f : A → List ℕ) where
-  pub joined-none : joined f [] ≡ []
-  unfolding joined
-  joined-none = refl
-
   pub puts_none : (d : List ℕ) → Puts (joined f []) d d 0
   unfolding joined
   puts_none d = record { count = refl; bytes = refl }
 
-  pub puts-next : (l : List A) (i : ℕ) (z : A) {d x new : List ℕ} {n k : ℕ} → i < length l → Puts (joined f (take i l)) d x n
-      → Puts (f (get_or l i z)) (mid_of n (length x - n) x) new k → Puts (joined f (take (i + 1) l)) d (put_mid n (length x - n) x new) (n + k)
-  puts-next l i z h p q = rw (add-one, take-suc l i z h, joined-more) (puts-more p q)
+  -- x is the part at i
+  pub puts-next : (l : List A) (i : ℕ) (x : A) {d o new : List ℕ} {n k : ℕ} → i < length l → x ≡ get_or l i x → Puts (joined f (take i l)) d o n
+      → Puts (f x) (mid_of n (length o - n) o) new k → Puts (joined f (take (i + 1) l)) d (put_mid n (length o - n) o new) (n + k)
+  puts-next l i x h e p q = rw (take_more l i x h, ← e, joined-more) (puts-more p q)
 
-  pub length-next : (l : List A) (i : ℕ) (z : A) → i < length l → length (joined f (take (i + 1) l)) ≡ length (joined f (take i l)) + length (f (get_or l i z))
-  length-next l i z h = rw (add-one, take-suc l i z h, joined-more) (length-append (joined f (take i l)) (f (get_or l i z)))
-
-  joined-room : (l : List A) (i n : ℕ) (z : A) → i < n → n ≤ length l
-      → length (joined f (take i l)) + length (f (get_or l i z)) ≤ length (joined f (take n l))
+  joined-room : (l : List A) (i : ℕ) (z : A) → i < length l → length (joined f (take i l)) + length (f (get_or l i z)) ≤ length (joined f l)
   unfolding joined
-  joined-room [] i n z h g = absurd (omega arith)
-  joined-room (x ∷ l) i zero z h g = absurd (omega arith)
-  joined-room (x ∷ l) zero (suc n) z h g = omega (arith, length-append (f x) (joined f (take n l)))
-  joined-room (x ∷ l) (suc i) (suc n) z h g =
-      omega (
-        arith,
-        length-append (f x) (joined f (take n l)),
-        length-append (f x) (joined f (take i l)),
-        joined-room l i n z (omega arith) (omega arith),
-      )
+  joined-room [] i z h = absurd (omega arith)
+  joined-room (x ∷ l) zero z h = omega (arith, length-append (f x) (joined f l))
+  joined-room (x ∷ l) (suc i) z h =
+      omega (arith, length-append (f x) (joined f l), length-append (f x) (joined f (take i l)), joined-room l i z (omega arith))
 
   -- what is left has room for the next part
-  pub puts-room : (l : List A) (i n : ℕ) (z : A) {d x : List ℕ} {at : ℕ} → i < n → n ≤ length l → length (joined f (take n l)) ≤ length d
-      → Puts (joined f (take i l)) d x at → Room (length (f (get_or l i z))) d x at
-  puts-room l i n z {x = x} {at = at} h g r p =
-      let j = joined-room l i n z h g in
-      let e = puts-long p (omega arith) in
-      record { fits = omega arith; same = e; rest = omega (arith, rest-long x at) }
+  pub puts-room : (l : List A) (i : ℕ) (x : A) {d o : List ℕ} {at : ℕ} → i < length l → x ≡ get_or l i x → length (joined f l) ≤ length d
+      → Puts (joined f (take i l)) d o at → Room (length (f x)) d o at
+  puts-room l i x {o = o} {at = at} h e r p =
+      let j : length (joined f (take i l)) + length (f x) ≤ length (joined f l) = rw (← e) at (joined-room l i x h) in
+      let same = puts-long p (omega arith) in
+      record { fits = omega arith; same = same; rest = omega (arith, rest-long o at) }
 
-pub joined-map : {A B : Type 0} (f : B → List ℕ) (g : A → B) (l : List A) → joined (λ x. f (g x)) l ≡ joined f (map g l)
-unfolding joined
-joined-map f g [] = refl
-joined-map f g (x ∷ l) = ap (λ m. f (g x) ++ m) (joined-map f g l)
-
--- a count that is beyond the array
-pub all-taken : {A : Type 0} (l : List A) (n : ℕ) {m : ℕ} → length l ≡ m → m < n → m ≡ length (take n l)
-all-taken l n e h = sym e ∙ ap length (sym (take_all n l (omega arith)))
-
--- as many as there are below the count
-take_again : {A : Type 0} (l : List A) (n : ℕ) → take (length (take n l)) l ≡ take n l
-take_again [] zero = refl
-take_again [] (suc n) = refl
-take_again (x ∷ l) zero = refl
-take_again (x ∷ l) (suc n) = ap (λ m. x ∷ m) (take_again l n)
-
-pub take_counted : {A : Type 0} (l : List A) (n : ℕ) {k : ℕ} → k ≡ length (take n l) → take k l ≡ take n l
-take_counted l n e = ap (λ k. take k l) e ∙ take_again l n
+  pub puts-all : (l : List A) (i : ℕ) {d o : List ℕ} {n : ℕ} → length l ≤ i → Puts (joined f (take i l)) d o n → Puts (joined f l) d o n
+  puts-all l i h p = rw (take_all i l h) at p

@@ -1,13 +1,10 @@
-// A field of the tower file, read and written. Places are counted from the start of the bytes that are given.
+// A field of the tower file, and so many parts of one kind, read and written. Places are counted from the start of the bytes that are given.
 #![tactic(auto)]
 
 use model::Refusal;
 
 pub mod fields;
+pub mod parts;
 
-// A field's number and the next place, or why it cannot be read.
-#[derive(Clone, Copy)]
-pub enum Field {
-    Value(u32, usize),
-    Refused(Refusal),
-}
+// A value and the next place, or why it cannot be read.
+pub type Parsed<T> = Result<(T, usize), Refusal>;

@@ -1,20 +1,11 @@
-use Rattle.std.proofs.Common.{arith, refl, sym, ◌∙◌}
-use Rattle.file_fields.proofs.Fetched.{no_room, whole-field, four_is}
+use Rattle.std.proofs.Common.{arith, ◌∙◌}
+use Rattle.file_fields.proofs.Fetched.{field_ends, field_is, be_four}
 use Rattle.file_fields.proofs.fields.fetch_four.Goals as goal
 
-pub returns-then-file-at-lt4 : goal.returns-then-file-at-lt4
-returns-then-file-at-lt4 c = (record { says = no_room 4 c.args.file.now c.args.at c.if-file-at-lt4.true }, tt)
+pub returns-in_default : goal.returns-in_default
+returns-in_default c = field_ends 4 c.args.file.now c.args.at c.in_default.ensures.cases
 
 pub returns : goal.returns
 returns c =
-    let w1 = c.number_of-a.ensures in
-    let w2 = c.number_of-b.ensures in
-    let w3 = c.number_of-c.ensures in
-    let w4 = c.number_of-d.ensures in
-    let whole = whole-field 4 c.args.file.now c.args.at (omega arith) in (
-      record {
-        says = whole _ (four_is c.args.file.now c.args.at (omega arith)
-            ∙ sym (rw (c.join-3.ensures, c.join-2.ensures, c.join.ensures, w1.0, w2.0, w3.0, w4.0) refl));
-      },
-      omega arith,
-    )
+    let b = c.in-Some.ensures.cases in
+    field_is 4 c.args.file.now c.args.at c.in-Some.bytes.now c.from_be_bytes.result c.requires b.enough b.same (c.from_be_bytes.ensures ∙ be_four b) (omega arith)
