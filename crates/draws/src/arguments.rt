@@ -1,148 +1,185 @@
 // Drawn arguments of calls, most of which suit the tower that stands.
-ghost use Rattle.std.specs.Prelude.{◌≤◌};
+ghost use Rattle.std.specs.Prelude.{◌≡◌, ◌<◌, ◌≤◌, IfSome};
 
-use crate::keys::{bits, field, is_wrong, once_in, part, short, within, word};
+use crate::fields::Draws;
+use crate::keys::Key;
 use crate::sections::FLOW_LIMITS;
 use crate::towers::item_of;
-use crate::{DrawnWind, Draws};
+use arrayvec::ArrayVec;
 use model::ranges::{DIRECTIONS, ICE_CLASSES, PRESSURES, STRUCTURE_FACTOR};
-use model::{Item, Legs};
+use model::{Item, Legs, Wind};
 
-// Which call is drawn, of 100. What is missing, a tower or a wind, comes more often.
-pub fn kind_of(key: u64, standing: bool, windy: bool) -> u64
-    ensures { result ≤ 99 }
-{
-    let soon = once_in(key, 0, 3);
-    if soon && !standing {
-        return 0;
+// Once in so many cases a field of an item or of a wind is wrong.
+const ITEM_ODDS: u64 = 30;
+
+const WIND_ODDS: u64 = 12;
+
+// Which call is drawn.
+#[derive(Clone, Copy, Debug, PartialEq, Eq)]
+pub enum CallKind {
+    Erect { sound: bool },
+    Hang,
+    TakeDown,
+    Wind,
+    Report,
+    Check,
+    Write,
+}
+
+impl CallKind {
+    // What is missing, a tower or a wind, comes more often.
+    pub fn drawn(key: Key, standing: bool, windy: bool) -> CallKind {
+        let soon = key.once_in(0, 3);
+        if soon && !standing {
+            return CallKind::Erect { sound: true };
+        }
+        if soon && !windy {
+            return CallKind::Wind;
+        }
+        match key.within(1, 0..=99) {
+            0..=2 => CallKind::Erect { sound: true },
+            3..=10 => CallKind::Erect { sound: false },
+            11..=34 => CallKind::Hang,
+            35..=49 => CallKind::TakeDown,
+            50..=63 => CallKind::Wind,
+            64..=79 => CallKind::Report,
+            80..=89 => CallKind::Check,
+            _ => CallKind::Write,
+        }
     }
-    if soon && !windy {
-        return 50;
+}
+
+// The arguments of a wind.
+#[derive(Debug, PartialEq, Eq, Drop)]
+pub struct DrawnWind {
+    pub direction: u32,
+    pub ice: u32,
+    pub factor: u32,
+    pub pressures: ArrayVec<u16, 40>,
+}
+
+impl DrawnWind {
+    pub fn as_wind(&self) -> Wind<'_>
+        ensures direction { result.direction ≡ self.now.direction }
+        ensures ice { result.ice ≡ self.now.ice }
+        ensures factor { result.factor ≡ self.now.factor }
+        ensures pressures { result.pressures.now ≡ self.now.pressures.items }
+    {
+        Wind {
+            direction: self.direction,
+            ice: self.ice,
+            factor: self.factor,
+            pressures: &self.pressures,
+        }
     }
-    within(key, 1, 0, 99)
 }
 
 // The number of an item.
-pub fn any_number(key: u64) -> u16
+pub fn any_number(key: Key) -> u16
     ensures { result ≤ 40 }
 {
-    within(key, 0, 0, 40) as u16
+    key.within(0, 0..=40) as u16
 }
 
-// No more than the most.
-fn up_to(n: u64, most: usize) -> usize
-    ensures { result ≤ most }
+// The place of one of so many items that are held, or none of them.
+pub fn held_place(key: Key, held: usize) -> Option<usize>
+    ensures { IfSome result (λ i. i < held) }
 {
-    if most as u64 <= n {
-        return most;
+    if held == 0 || key.once_in(1, 2) {
+        None
+    } else {
+        Some(key.index(2, held))
     }
-    n as usize
-}
-
-// The place of one of so many items that are held, or their count for none of them.
-pub fn held_place(key: u64, held: usize) -> usize
-    ensures { result ≤ held }
-{
-    if held == 0 {
-        return 0;
-    }
-    if once_in(key, 1, 2) {
-        return held;
-    }
-    up_to(bits(key, 2) % held as u64, held)
 }
 
 // An item to hang on one of so many sections.
-pub fn hung_item(key: u64, sections: u64) -> Item
+pub fn hung_item(key: Key, sections: u64) -> Item
     ensures { result.number ≤ 40 }
 {
-    let d = Draws { key, odds: 30 };
-    item_of(d, any_number(key), sections)
+    let draws = Draws {
+        key,
+        odds: Some(ITEM_ODDS),
+    };
+    item_of(draws, any_number(key), sections)
 }
 
 // With three legs an odd one is wrong too.
-fn direction(d: Draws, legs: Legs) -> u32 {
-    let k = word(field(d, 0, DIRECTIONS));
-    if is_wrong(d, 6) {
-        return k;
-    }
+fn direction(draws: Draws, legs: Legs) -> u32 {
+    let direction = draws.field(0, DIRECTIONS);
     match legs {
-        Legs::Three => k / 2 * 2,
-        Legs::Four => k,
+        Legs::Three if !draws.is_wrong(6) => direction / 2 * 2,
+        _ => direction,
     }
 }
 
-fn ice_class(d: Draws) -> u32 {
-    if once_in(d.key, 1, 2) {
-        return 0;
+fn ice_class(draws: Draws) -> u32 {
+    if draws.key.once_in(1, 2) {
+        0
+    } else {
+        draws.field(2, ICE_CLASSES)
     }
-    word(field(d, 2, ICE_CLASSES))
 }
 
 // How many pressures there are, with so many sections.
-fn pressure_count(d: Draws, sections: u64) -> usize
+fn pressure_count(draws: Draws, sections: u64) -> u64
     ensures { result ≤ 40 }
 {
-    if is_wrong(d, 4) {
-        return within(d.key, 4, 0, 33) as usize;
+    if draws.is_wrong(4) {
+        u64::from(draws.key.within(4, 0..=33))
+    } else {
+        sections.min(40)
     }
-    up_to(sections, 40)
 }
 
 // Any pressure, or one at a flow limit or just above it.
-fn pressure(d: Draws) -> u64 {
-    if once_in(d.key, 0, 4) {
-        let i = (bits(d.key, 1) % 6) as usize;
-        return std::num::wrapping_add_u64(FLOW_LIMITS[i], within(d.key, 2, 0, 1));
+fn pressure(draws: Draws) -> u16 {
+    let key = draws.key;
+    if key.once_in(0, 4) {
+        let (_, limit) = FLOW_LIMITS[key.index(1, FLOW_LIMITS.len())];
+        limit.wrapping_add(key.within(2, 0..=1) as u16)
+    } else {
+        (draws.field(3, PRESSURES) & 0xffff) as u16
     }
-    field(d, 3, PRESSURES)
 }
 
-fn pressures(d: Draws) -> [u16; 40] {
-    let mut all = [0u16; 40];
-    for i in 0usize..40 {
-        all[i] = short(pressure(part(d, i as u64)));
+// So many pressures, each of them wrong once in `odds` cases.
+fn pressures(draws: Draws, count: u64) -> ArrayVec<u16, 40>
+    requires { count ≤ 40 }
+{
+    let mut pressures = ArrayVec::new();
+    for place in 0..count {
+        pressures.push(pressure(draws.part(place)));
     }
-    all
+    pressures
 }
 
 // A wind for a tower with so many sections. With more of them a pressure is wrong less often.
-pub fn wind_of(key: u64, legs: Legs, sections: u64) -> DrawnWind
-    ensures { result.count ≤ 40 }
-{
-    let d = Draws { key, odds: 12 };
-    let each = Draws {
-        key: bits(key, 5),
-        odds: 12 * (sections % 33),
+pub fn wind_of(key: Key, legs: Legs, sections: u64) -> DrawnWind {
+    let draws = Draws {
+        key,
+        odds: Some(WIND_ODDS),
     };
-    let pressures = pressures(each);
+    let each = Draws {
+        key: key.part(5),
+        odds: Some(WIND_ODDS.saturating_mul(sections)),
+    };
     DrawnWind {
-        direction: direction(d, legs),
-        ice: ice_class(d),
-        factor: word(field(d, 3, STRUCTURE_FACTOR)),
-        count: pressure_count(d, sections),
-        pressures,
+        direction: direction(draws, legs),
+        ice: ice_class(draws),
+        factor: draws.field(3, STRUCTURE_FACTOR),
+        pressures: pressures(each, pressure_count(draws, sections)),
     }
 }
 
-// As many elements as are needed, or some more or fewer.
-fn any_room(key: u64, needed: u64) -> u64 {
-    let kind = within(key, 0, 0, 7);
-    if kind == 0 {
-        return std::num::wrapping_sub_u64(needed, 1);
-    }
-    if kind == 1 {
-        return bits(key, 1) % (needed % 4096 + 1);
-    }
-    if kind < 4 {
-        return std::num::wrapping_add_u64(needed, within(key, 1, 1, 20));
-    }
-    needed
-}
-
-// How many elements are lent where so many are needed, out of the most.
-pub fn room(key: u64, needed: u64, most: usize) -> usize
+// As many elements as are needed, or some more or fewer, out of the most.
+pub fn room(key: Key, needed: usize, most: usize) -> usize
     ensures { result ≤ most }
 {
-    up_to(any_room(key, needed), most)
+    let room = match key.within(0, 0..=7) {
+        0 => needed.wrapping_sub(1),
+        1 => key.index(1, needed.saturating_add(1)),
+        2 | 3 => needed.saturating_add(key.within(1, 1..=20) as usize),
+        _ => needed,
+    };
+    room.min(most)
 }

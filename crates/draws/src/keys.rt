@@ -1,91 +1,62 @@
-// Numbers, and fields, drawn from a key.
-ghost use Rattle.std.specs.Prelude.{◌≡◌, ◌<◌, ◌≤◌};
+// Numbers drawn from a key.
+ghost use Rattle.std.specs.Prelude.{◌≡◌, ◌%◌, ◌<◌, ◌≤◌, ◌↔◌, IsTrue};
+ghost use Rattle.std.specs.Range.{range_inclusive_start, range_inclusive_end};
 ghost use Rattle.draws.specs.Draws.{stir, drawn};
 
-use crate::Draws;
 use lines::digest::mix;
-use model::Range;
+use std::ops::RangeInclusive;
 
+// What numbers are drawn from.
+#[derive(Clone, Copy, Debug, PartialEq, Eq)]
+pub struct Key(pub u64);
+
+#[tactic(auto, unfolding(crate::specs::Draws::stir))]
 fn stirred(n: u64) -> u64
     ensures { result ≡ stir n }
 {
-    mix(n, n / 536_870_912)
+    mix(n, n >> 29)
 }
 
-// 64 bits, each of which depends on all of the key and the place. They also are the key of a part.
-pub fn bits(key: u64, place: u64) -> u64
-    ensures { result ≡ drawn key place }
-{
-    let mixed = mix(key, place);
-    stirred(stirred(stirred(stirred(mixed))))
-}
-
-pub(crate) fn part(d: Draws, place: u64) -> Draws {
-    Draws {
-        key: bits(d.key, place),
-        odds: d.odds,
+impl Key {
+    // 64 bits, each of which depends on all of the key and the place.
+    pub fn bits(self, place: u64) -> u64
+        ensures { result ≡ drawn self.0 place }
+    {
+        let mixed = mix(self.0, place);
+        stirred(stirred(stirred(stirred(mixed))))
     }
-}
 
-// From low to high.
-pub(crate) fn within(key: u64, place: u64, low: u64, high: u64) -> u64
-    requires { (low ≤ high) × (high < 4_294_967_296) }
-    ensures { (low ≤ result) × (result ≤ high) }
-{
-    low + bits(key, place) % (high - low + 1)
-}
-
-// True once in so many cases, and never for 0.
-pub(crate) fn once_in(key: u64, place: u64, cases: u64) -> bool {
-    if cases == 0 {
-        return false;
+    // The key of a part.
+    pub fn part(self, place: u64) -> Key
+        ensures { result.0 ≡ drawn self.0 place }
+    {
+        Key(self.bits(place))
     }
-    bits(key, place) % cases == 0
-}
 
-// Whether the field of this place is wrong.
-pub(crate) fn is_wrong(d: Draws, place: u64) -> bool {
-    once_in(bits(d.key, place), 0, d.odds)
-}
-
-// A number just below the range, just above it, or the largest, which is the largest of each field's width.
-fn outside(key: u64, range: Range) -> u64 {
-    let kind = within(key, 1, 0, 2);
-    if kind == 2 {
-        return 4_294_967_295;
+    // A number of the range.
+    pub(crate) fn within(self, place: u64, range: RangeInclusive<u32>) -> u32
+        requires { range_inclusive_start range ≤ range_inclusive_end range }
+        ensures low { range_inclusive_start range ≤ result }
+        ensures high { result ≤ range_inclusive_end range }
+    {
+        let (low, high) = range.into_inner();
+        let count = u64::from(high - low) + 1;
+        low + (self.bits(place) % count) as u32
     }
-    let low = range.low as u64;
-    if kind == 0 && 0 < low {
-        return low - 1;
+
+    // The place of one of so many.
+    pub fn index(self, place: u64, count: usize) -> usize
+        requires { 0 < count }
+        ensures value { result ≡ drawn self.0 place % count }
+        ensures within { result < count }
+    {
+        (self.bits(place) % count as u64) as usize
     }
-    range.high as u64 + 1
-}
 
-// This number, or one outside the range.
-pub(crate) fn or_wrong(d: Draws, place: u64, number: u64, range: Range) -> u64 {
-    if is_wrong(d, place) {
-        return outside(bits(d.key, place), range);
+    // True once in so many cases.
+    pub fn once_in(self, place: u64, cases: u64) -> bool
+        ensures { IsTrue result ↔ (drawn self.0 place % cases ≡ 0) }
+    {
+        self.bits(place).is_multiple_of(cases)
     }
-    number
-}
-
-// A number of the range, or a wrong one.
-pub(crate) fn field(d: Draws, place: u64, range: Range) -> u64
-    requires { range.low ≤ range.high }
-{
-    let drawn = within(d.key, place, range.low as u64, range.high as u64);
-    or_wrong(d, place, drawn, range)
-}
-
-// The low bits.
-pub(crate) fn byte(n: u64) -> u8 {
-    (n % 256) as u8
-}
-
-pub(crate) fn short(n: u64) -> u16 {
-    (n % 65_536) as u16
-}
-
-pub(crate) fn word(n: u64) -> u32 {
-    (n % 4_294_967_296) as u32
 }

@@ -1,182 +1,155 @@
 // Files of drawn towers, sound and damaged, and items.
-ghost use Rattle.std.specs.Prelude.{◌≡◌, ◌≤◌};
+ghost use Rattle.std.specs.Prelude.{◌≡◌, ◌<◌, ◌≤◌};
 
-use crate::files::{empty_file, put, short_behind, up_to_end};
-use crate::keys::{bits, byte, field, is_wrong, or_wrong, part, short, within, word};
-use crate::sections::put_sections;
-use crate::{Draws, File};
+use crate::fields::Draws;
+use crate::files::File;
+use crate::keys::Key;
+use crate::sections::put_section;
 use model::ranges::{
     COEFFICIENTS, ITEM_COUNT, ITEM_LENGTH, ITEM_WIDTH, LEG_COUNT, POSITION_FACTOR, SECTION_COUNT,
 };
 use model::{Item, Range};
 use units::Length;
 
+// A place beyond those of a list's calls.
+const CALLS_END: u64 = 1000;
+
 // How many sections and items a tower has.
 #[derive(Clone, Copy)]
 struct Extent {
     sections: u64,
     items: u64,
+    ghost few_items: { items ≤ 64 },
 }
 
-// The towers of a list have up to three sections and four items, or up to 64 items, or up to 32 sections. The list's place 1000 is beyond those of
-// its calls.
-fn extent_of(list: u64, key: u64) -> Extent {
-    let n = within(list, 1000, 0, 31);
-    if n == 0 {
-        return Extent {
-            sections: within(key, 0, 4, 32),
-            items: within(key, 1, 0, 8),
-        };
-    }
-    if n < 4 {
-        return Extent {
-            sections: within(key, 0, 1, 2),
-            items: within(key, 1, 60, 64),
-        };
-    }
+// The towers of a list have up to three sections and four items, or up to 64 items, or up to 32 sections.
+fn extent_of(list: Key, key: Key) -> Extent {
+    let (sections, items) = match list.within(CALLS_END, 0..=31) {
+        0 => (4..=32, 0..=8),
+        1..=3 => (1..=2, 60..=64),
+        _ => (1..=3, 0..=4),
+    };
     Extent {
-        sections: within(key, 0, 1, 3),
-        items: within(key, 1, 0, 4),
+        sections: u64::from(key.within(0, sections)),
+        items: u64::from(key.within(1, items)),
     }
-}
-
-fn last_of(sections: u64) -> u32 {
-    word(std::num::wrapping_sub_u64(sections, 1))
-}
-
-// The fields of an item on one of the sections up to the last, in the order of a file, behind its number.
-fn item_fields(d: Draws, last: u32) -> [u64; 6] {
-    let range = Range { low: 0, high: last };
-    [
-        field(d, 2, range),
-        field(d, 3, ITEM_WIDTH),
-        field(d, 4, ITEM_LENGTH),
-        field(d, 5, COEFFICIENTS),
-        field(d, 6, COEFFICIENTS),
-        field(d, 7, POSITION_FACTOR),
-    ]
 }
 
 // An item on one of so many sections.
-pub(crate) fn item_of(d: Draws, number: u16, sections: u64) -> Item
+pub(crate) fn item_of(draws: Draws, number: u16, sections: u64) -> Item
     ensures { result.number ≡ number }
 {
-    let n = item_fields(d, last_of(sections));
+    let last = sections.wrapping_sub(1) & 0xffff_ffff;
+    let on = Range {
+        low: 0,
+        high: last as u32,
+    };
     Item {
         number,
-        section: byte(n[0]),
-        width: Length(word(n[1])),
-        length: Length(word(n[2])),
-        bare: short(n[3]),
-        iced: short(n[4]),
-        position: short(n[5]),
+        section: (draws.field(2, on) & 0xff) as u8,
+        width: Length(draws.field(3, ITEM_WIDTH)),
+        length: Length(draws.field(4, ITEM_LENGTH)),
+        bare: (draws.field(5, COEFFICIENTS) & 0xffff) as u16,
+        iced: (draws.field(6, COEFFICIENTS) & 0xffff) as u16,
+        position: (draws.field(7, POSITION_FACTOR) & 0xffff) as u16,
     }
 }
 
-fn put_item(f: File, number: u64, n: [u64; 6]) -> File {
-    let place = (number << 8) ^ (n[0] % 256);
-    let f = put(f, 7, short_behind(short_behind(place, n[1]), n[2]));
-    put(f, 6, short_behind(short_behind(n[3], n[4]), n[5]))
+fn put_item(file: &mut File, item: &Item) {
+    file.put(2, u32::from(item.number));
+    file.put(1, u32::from(item.section));
+    file.put(2, item.width.0);
+    file.put(2, item.length.0);
+    file.put(2, u32::from(item.bare));
+    file.put(2, u32::from(item.iced));
+    file.put(2, u32::from(item.position));
 }
 
-// A number that no other of 64 places has.
-fn number_at(items: u64, place: u64) -> u64 {
-    3 * (place % 64) + within(bits(items, place), 1, 0, 2)
+// A number that no other place has.
+fn number_at(items: Key, place: u64) -> u16
+    requires { place < 64 }
+{
+    let number = 3 * place + u64::from(items.part(place).within(1, 0..=2));
+    number as u16
 }
 
-// The number of the item at this place among a file's. A wrong one is that of the item before.
-fn filed_number(items: Draws, place: u64) -> u64 {
-    if 0 < place && is_wrong(part(items, place), 0) {
-        return number_at(items.key, place - 1);
+// The item at this place among a file's. A wrong number is that of the item before.
+fn filed_item(items: Draws, place: u64, sections: u64) -> Item
+    requires { place < 64 }
+{
+    let draws = items.part(place);
+    let back = u64::from(0 < place && draws.is_wrong(0));
+    item_of(draws, number_at(items.key, place - back), sections)
+}
+
+fn file_of(draws: Draws, extent: Extent) -> File {
+    let Extent { sections, items } = extent;
+    let mut file = File::new();
+    file.put(1, draws.field(0, LEG_COUNT));
+    let count = (sections & 0xff) as u32;
+    file.put(1, draws.or_wrong(1, count, SECTION_COUNT));
+    for place in 0..sections {
+        put_section(&mut file, draws.part(2).part(place));
     }
-    number_at(items.key, place)
-}
-
-fn put_items(f: File, d: Draws, count: u64, last: u32) -> File {
-    let mut file = f;
-    for i in 0u64..count {
-        file = put_item(file, filed_number(d, i), item_fields(part(d, i), last));
+    file.put(1, draws.or_wrong(3, items as u32, ITEM_COUNT));
+    for place in 0..items {
+        put_item(&mut file, &filed_item(draws.part(4), place, sections));
     }
     file
 }
 
-// A file with so many sections and items.
-fn file_of(d: Draws, extent: Extent) -> File {
-    let sections = extent.sections;
-    let items = extent.items;
-    let f = put(empty_file(), 1, field(d, 0, LEG_COUNT));
-    let f = put(f, 1, or_wrong(d, 1, sections, SECTION_COUNT));
-    let f = put_sections(f, part(d, 2), sections);
-    let f = put(f, 1, or_wrong(d, 3, items, ITEM_COUNT));
-    put_items(f, part(d, 4), items, last_of(sections))
-}
-
 // A file that is accepted.
-fn sound_file(key: u64, extent: Extent) -> File {
-    let d = Draws {
-        key: bits(key, 0),
-        odds: 0,
+fn sound_file(key: Key, extent: Extent) -> File {
+    let draws = Draws {
+        key: key.part(0),
+        odds: None,
     };
-    file_of(d, extent)
+    file_of(draws, extent)
 }
 
-// The file with a byte that is any, with bytes behind its end, or cut.
-fn damaged(f: File, key: u64, kind: u64) -> File {
-    let length = f.length;
-    if length == 0 {
-        return f;
-    }
-    let any = bits(key, 4) % length as u64;
-    if kind == 1 {
-        return put(f, within(key, 5, 1, 3) as usize, any);
-    }
-    let mut bytes = f.bytes;
-    let cut = File {
-        length: any as usize,
-        bytes,
+// A file with wrong fields, a byte that is any, bytes behind its end, or none there.
+fn damaged_file(key: Key, extent: Extent) -> File {
+    let kind = key.within(2, 0..=7);
+    let odds = match kind {
+        0..=2 => None,
+        _ => Some(u64::from(key.within(3, 8..=64))),
     };
-    if kind == 2 {
-        return cut;
-    }
-    let changed = put(cut, 1, within(key, 5, 0, 255));
-    bytes = changed.bytes;
-    File { length, bytes }
-}
-
-// A file with damage; most have wrong fields.
-fn damaged_file(key: u64, extent: Extent) -> File {
-    let kind = within(key, 2, 0, 7);
-    if kind < 3 {
-        return damaged(sound_file(key, extent), key, kind);
-    }
-    let d = Draws {
-        key: bits(key, 0),
-        odds: within(key, 3, 8, 64),
+    let draws = Draws {
+        key: key.part(0),
+        odds,
     };
-    file_of(d, extent)
+    let mut file = file_of(draws, extent);
+    if file.bytes.is_empty() {
+        return file;
+    }
+    let any = key.index(4, file.bytes.len());
+    match kind {
+        0 => file.bytes[any] = key.within(5, 0..=255) as u8,
+        1 => file.put(key.within(5, 1..=3) as usize, any as u32),
+        2 => file.bytes.truncate(any),
+        _ => {}
+    }
+    file
 }
 
 // A file for a list, which is accepted if it is sound.
-pub fn drawn_file(list: u64, key: u64, sound: bool) -> File
-    ensures { result.length ≤ 3000 }
-{
+pub fn drawn_file(list: Key, key: Key, sound: bool) -> File {
     let extent = extent_of(list, key);
     if sound {
-        return up_to_end(sound_file(key, extent));
+        sound_file(key, extent)
+    } else {
+        damaged_file(key, extent)
     }
-    up_to_end(damaged_file(key, extent))
 }
 
 // A file without items, which is accepted.
-pub fn bare_file(key: u64, sections: u64) -> File
-    ensures { result.length ≤ 3000 }
-{
-    up_to_end(sound_file(key, Extent { sections, items: 0 }))
+pub fn bare_file(key: Key, sections: u64) -> File {
+    sound_file(key, Extent { sections, items: 0 })
 }
 
 // A sound item on one of so many sections.
-pub fn sound_item(key: u64, number: u16, sections: u64) -> Item
+pub fn sound_item(key: Key, number: u16, sections: u64) -> Item
     ensures { result.number ≡ number }
 {
-    item_of(Draws { key, odds: 0 }, number, sections)
+    item_of(Draws { key, odds: None }, number, sections)
 }
