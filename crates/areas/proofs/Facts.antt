@@ -16,7 +16,7 @@ use Rattle.model.specs.Valid.{group_fits}
 use Rattle.exact.proofs.Bools.{and_split}
 use Rattle.model.proofs.Sections.{InRange, in-range}
 
--- what stands past an array's end
+-- what is read past a list's end
 abbrev pub no_group : Group
 no_group = record { member = Flat (record { 0 = 0 }); length = record { 0 = 0 } }
 
@@ -33,7 +33,7 @@ no_item =
     }
 
 abbrev pub no_stored : Section
-no_stored = record { width = record { 0 = 0 }; height = record { 0 = 0 }; allowance = record { 0 = 0 }; count = 0; groups = [] }
+no_stored = record { width = record { 0 = 0 }; height = record { 0 = 0 }; allowance = record { 0 = 0 }; groups = record { items = [] } }
 
 pub record GroupFacts (g : Group) : Type 0 where
   pub size : InRange member_size (size_of g.member).0

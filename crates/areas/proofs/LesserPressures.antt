@@ -1,14 +1,15 @@
 -- The lesser winds of the groups in code.
 use Prim.Native.Nat.{ℕ, zero, suc, ◌+◌, ◌*◌, ◌/◌, ◌≤◌, ◌<◌}
-use mathlib.Core.Path.{◌≡◌, refl, sym, subst, ◌∙◌}
-use mathlib.Core.Bool.{Bool, true, false, cond}
+use mathlib.Core.Path.{◌≡◌, refl, sym, subst}
+use mathlib.Core.Bool.{Bool, true, false, cond, ◌||◌, or-true}
 use mathlib.Core.List.{List, [], ◌∷◌}
 use mathlib.Core.Logic.{⊎_elim}
+use native.Mathlib.Numerals.{add-one}
 use native.Mathlib.Omega.{arith}
 use native.Mathlib.Nat.{mul-pos, mul-le-mul}
 use lib.Dec.{eqb}
 use lib.ListN.{length, get_or, take}
-use lib.Seq.{get_or-take, length-take-le}
+use lib.Seq.{take-suc}
 use borrow.Author.Tests.{eq-eqb, ne_eqb}
 use Rattle.units.specs.declared.Length.{Length}
 use Rattle.exact.proofs.Order.{le-or-lt}
@@ -18,18 +19,11 @@ use Rattle.model.specs.declared.Group.{Group}
 use Rattle.model.specs.Lists.{any_of, all_of, joined}
 use Rattle.model.specs.Areas.{flow_limit, is_supercritical, lesser_of, lesser_winds, areas_of}
 use Rattle.model.proofs.Lists.{any_append}
+use Rattle.model.proofs.FileLength.{joined-more}
 use Rattle.model.specs.Valid.{group_fits}
 use Rattle.model.proofs.Sections.{none-lesser}
 use Rattle.model.proofs.LesserWinds.{GreatestUnder, greatest-under, positive, less, limit-above, limit-over, stays, turns_at}
-use Rattle.areas.specs.LesserPressures.{or_none, weak, Covered}
-
-pub none_is : or_none 0 ≡ []
-unfolding or_none
-none_is = refl
-
-pub one-is : {p : ℕ} → 0 < p → or_none p ≡ p ∷ []
-unfolding or_none
-one-is {p} h = rw (ne_eqb p 0 (λ e. omega arith))
+use Rattle.areas.specs.LesserPressures.{Covered, none}
 
 -- the greatest pressure below it: not 0 for a diameter of at most 1 m, and below q
 module _ (q : ℕ) (d : Length) (g : flow_limit < 2 * q * (d.0 * d.0)) where
@@ -74,12 +68,22 @@ module _ (t : Length) (p : ℕ) (d : Length) where
       go false true e f = absurd (clash (stays t (p + 1) q d (omega arith) f) e)
       go false false e f = refl
 
--- of groups: some has it, and so the list has it
-pub any-winds : (t : Length) (q p : ℕ) (gs : List Group)
-    → any_of (λ (g : Group). any_of (eqb p) (lesser_of t q g.member)) gs ≡ any_of (eqb p) (lesser_winds t q gs)
-unfolding lesser_winds joined
-any-winds t q p [] = refl
-any-winds t q p (g ∷ gs) = rw (any_append (eqb p) (lesser_of t q g.member) (lesser_winds t q gs), any-winds t q p gs)
+-- the lesser winds of one group more; and one that a group has is among those of all
+module _ (t : Length) (q p : ℕ) where
+  pub wind-more : (gs : List Group) (i : ℕ) (d : Group) → i < length gs
+      → any_of (eqb p) (lesser_winds t q (take (i + 1) gs)) ≡ (any_of (eqb p) (lesser_winds t q (take i gs)) || any_of (eqb p) (lesser_of t q (get_or gs i d).member))
+  unfolding lesser_winds
+  wind-more gs i d h =
+      rw (add-one, take-suc gs i d h, joined-more (λ g. lesser_of t q g.member) (take i gs) (get_or gs i d))
+      (any_append (eqb p) (lesser_winds t q (take i gs)) (lesser_of t q (get_or gs i d).member))
+
+  pub wind-found : (gs : List Group) (i : ℕ) (d : Group) → i < length gs → any_of (eqb p) (lesser_of t q (get_or gs i d).member) ≡ true
+      → any_of (eqb p) (lesser_winds t q gs) ≡ true
+  unfolding lesser_winds joined
+  wind-found [] i d h e = absurd (omega arith)
+  wind-found (g ∷ gs) zero d h e = rw (any_append (eqb p) (lesser_of t q g.member) (lesser_winds t q gs), e)
+  wind-found (g ∷ gs) (suc i) d h e =
+      rw (any_append (eqb p) (lesser_of t q g.member) (lesser_winds t q gs), wind-found gs i d (omega arith) e) (or-true _)
 
 -- what is read past the end does not matter before it
 pub get_or-any : (l : List Group) (i : ℕ) (c d : Group) → i < length l → get_or l i c ≡ get_or l i d
@@ -94,11 +98,6 @@ covered_more t q gs from i before here k l h =
     ⊎_elim (λ (g : i ≤ k). let z : i ≡ k = omega arith in subst (Covered t q gs) z here) (before k l) (le-or-lt i k)
 
 -- no group has a lesser wind where there is no supercritical area
-pub none-covered : (t : Length) (q n : ℕ) (gs : List Group) → n ≤ length gs → all_of group_fits (take n gs) ≡ true
-    → (areas_of t q (take n gs)).supercritical.0 ≡ 0 → (i : ℕ) → i < n → Covered t q gs i
-none-covered t q n gs b h z i l =
-    record {
-      pressure = 0;
-      lesser = λ d. let e : _ = none-lesser t q (take n gs) h z i d (omega (arith, length-take-le n gs b)) in (rw get_or-take at e) ∙ sym none_is;
-      needless = weak (omega arith);
-    }
+pub none-covered : (t : Length) (q : ℕ) (gs : List Group) → all_of group_fits gs ≡ true → (areas_of t q gs).supercritical.0 ≡ 0
+    → (i : ℕ) → i < length gs → Covered t q gs i
+none-covered t q gs h z i l = none (λ d. none-lesser t q gs h z i d l)

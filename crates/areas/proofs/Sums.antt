@@ -63,8 +63,15 @@ pub record AreasAfter (t : Length) (q : ℕ) (l : List Group) (i : ℕ) (a : Are
   pub subcritical : a.subcritical.0 ≤ i * 220_000_000
   pub supercritical : a.supercritical.0 ≤ i * 220_000_000
 
-pub after_none : (t : Length) (q : ℕ) (l : List Group) → AreasAfter t q l 0 (areas 0 0 0)
-after_none t q l = record { sums = areas-none t q; flat = omega arith; subcritical = omega arith; supercritical = omega arith }
+pub after_none : (t : Length) (q : ℕ) (l : List Group) {a : Areas} → (a.flat.0 ≡ 0) × ((a.subcritical.0 ≡ 0) × (a.supercritical.0 ≡ 0))
+    → AreasAfter t q l 0 a
+after_none t q l {a} z =
+    record {
+      sums = areas-eq a (areas 0 0 0) z.0 z.1.0 z.1.1 ∙ areas-none t q;
+      flat = omega (arith, z.0);
+      subcritical = omega (arith, z.1.0);
+      supercritical = omega (arith, z.1.1);
+    }
 
 pub after-more : (t : Length) (q : ℕ) (l : List Group) (i : ℕ) (d : Group) → t.0 ≤ 50 → i < length l → group_fits (get_or l i d) ≡ true
     → {a r : Areas} → AreasAfter t q l i a → Added t q (get_or l i d) a r → AreasAfter t q l (i + 1) r
@@ -79,14 +86,14 @@ pub after-small : {t : Length} {q : ℕ} {l : List Group} {i : ℕ} {a : Areas} 
 after-small few s = record { flat = omega arith; subcritical = omega arith; supercritical = omega arith }
 
 -- the same for A_S
-pub solid-none : (t : Length) → (solid_of t []).0 ≡ 0
-unfolding solid_of
-solid-none t = sum_by-none _
+pub solid-none : (t : Length) → record { 0 = 0 } ≡ solid_of t []
+unfolding solid_of sum_by
+solid-none t = refl
 
-pub solid-next : (t : Length) (l : List Group) (i : ℕ) (d : Group) → i < length l → (sum : ℕ) (a : Area)
-    → sum ≡ (solid_of t (take i l)).0 → a ≡ group_area t (get_or l i d) → sum + a.0 ≡ (solid_of t (take (i + 1) l)).0
+pub solid-next : (t : Length) (l : List Group) (i : ℕ) (d : Group) → i < length l → (sum a : Area)
+    → sum ≡ solid_of t (take i l) → a ≡ group_area t (get_or l i d) → record { 0 = sum.0 + a.0 } ≡ solid_of t (take (i + 1) l)
 unfolding solid_of
-solid-next t l i d h sum a e f = omega (arith, sum_by-more (λ g. (group_area t g).0) l i d h, ap (λ (x : Area). x.0) f)
+solid-next t l i d h sum a e f = rw (e, f, sum_by-more (λ g. (group_area t g).0) l i d h)
 
 -- the group's area goes to the sum of its class alone
 pub added : (class : Flow) (t : Length) (q : ℕ) (g : Group) (x : Area) (a r : Areas) → flow_of t q g.member ≡ class → x ≡ group_area t g

@@ -4,27 +4,27 @@ ghost use Rattle.model.specs.Force.{item_part, largest_item};
 ghost use Rattle.model.specs.Force as force;
 ghost use Rattle.model.specs.File.{fields_in_range};
 
+use crate::ice::Ice;
 use crate::section::iced_area;
 use model::Item;
 use units::Length;
 
 // In thousandths: the iced one if there is ice.
-fn coefficient(t: Length, it: Item) -> u64
-    requires { fields_in_range it ≡ true }
-    ensures { (result ≡ force.coefficient t it) × (result ≤ 3000) }
+#[tactic(auto, unfolding(model::specs::Force::coefficient))]
+fn coefficient(t: Length, item: Item) -> u16
+    requires { fields_in_range item ≡ true }
+    ensures { (result ≡ force.coefficient t item) × (result ≤ 3000) }
 {
-    if t.0 == 0 {
-        return it.bare as u64;
-    }
-    it.iced as u64
+    if t.0 == 0 { item.bare } else { item.iced }
 }
 
 // Coefficient · K · area, in millionths of mm².
-pub fn item_part(t: Length, it: Item) -> u64
-    requires { (t.0 ≤ 50) × (fields_in_range it ≡ true) }
-    ensures { (result ≡ item_part t it) × (result ≤ largest_item) }
+pub fn item_part(ice: Ice, item: Item) -> u64
+    requires { fields_in_range item ≡ true }
+    ensures value { result ≡ item_part ice.thickness item }
+    ensures small { result ≤ largest_item }
 {
-    let a = iced_area(t, it.width, it.length);
-    let c = coefficient(t, it);
-    c * (it.position as u64) * a.0
+    let area = iced_area(ice, item.width, item.length);
+    let coefficient = coefficient(ice.thickness, item);
+    (coefficient as u64) * (item.position as u64) * area.0
 }

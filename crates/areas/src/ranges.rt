@@ -1,153 +1,94 @@
 // Whether groups, items and sections are within document 01's ranges.
-ghost use Rattle.std.specs.Prelude.{◌≡◌, true, ◌≤◌, take};
+ghost use Rattle.std.specs.Prelude.{◌≡◌, ◌≤◌, length, is_some, IfSome};
 ghost use Rattle.model.specs.Lists.{all_of};
-ghost use Rattle.model.specs.Ranges as ranges;
-ghost use Rattle.model.specs.Areas.{size_of, solid_of};
+ghost use Rattle.model.specs.Areas.{areas_of};
+ghost use Rattle.model.specs.Tower.{section_of};
 ghost use Rattle.model.specs.File.{fields_in_range};
 ghost use Rattle.model.specs.Valid.{group_fits};
-ghost use Rattle.areas.specs.Fits.{sizes_fit, fits_under, MeasuredGroups, MeasuredUnder};
+ghost use Rattle.areas.specs.Fits.{sizes_fit, fits_under};
+ghost use Rattle.areas.specs.Sums.{SmallAreas};
 
-use crate::Measured;
-use crate::section::{NO_AREAS, add_group, gross_area, group_area, solid_area};
+use crate::ice::Ice;
+use crate::section::{add_group, gross_area};
 use model::ranges::{
-    COEFFICIENTS, ITEM_LENGTH, ITEM_WIDTH, MEMBER_LENGTH, MEMBER_SIZE, POSITION_FACTOR,
-    SECTION_HEIGHT, SECTION_WIDTH, within,
+    COEFFICIENTS, GROUP_COUNT, ITEM_LENGTH, ITEM_WIDTH, MEMBER_LENGTH, MEMBER_SIZE,
+    POSITION_FACTOR, SECTION_HEIGHT, SECTION_WIDTH,
 };
-use model::{Group, Item, Member, Section};
-use units::{Area, Length};
+use model::{Areas, Group, Item, Section};
+use units::Length;
 
-fn member_fits(m: Member) -> bool
-    ensures { result ≡ ranges.within ranges.member_size (size_of m).0 }
+pub fn group_fits(group: Group) -> bool
+    ensures { result ≡ group_fits group }
 {
-    match m {
-        Member::Flat(w) => within(MEMBER_SIZE, w.0),
-        Member::Round(d) => within(MEMBER_SIZE, d.0),
-    }
+    MEMBER_SIZE.contains(group.member.size().0) && MEMBER_LENGTH.contains(group.length.0)
 }
 
-pub fn group_fits(g: Group) -> bool
-    ensures { result ≡ group_fits g }
+pub fn groups_fit(groups: &[Group]) -> bool
+    ensures { result ≡ all_of group_fits groups.now }
 {
-    let m = g.member;
-    member_fits(m) && within(MEMBER_LENGTH, g.length.0)
+    groups.iter().all(|group| group_fits(*group))
 }
 
-pub fn fields_in_range(it: Item) -> bool
-    ensures { result ≡ fields_in_range it }
+pub fn fields_in_range(item: Item) -> bool
+    ensures { result ≡ fields_in_range item }
 {
-    if !within(ITEM_WIDTH, it.width.0) {
-        return false;
-    }
-    if !within(ITEM_LENGTH, it.length.0) {
-        return false;
-    }
-    if !within(COEFFICIENTS, it.bare as u32) {
-        return false;
-    }
-    if !within(COEFFICIENTS, it.iced as u32) {
-        return false;
-    }
-    within(POSITION_FACTOR, it.position as u32)
-}
-
-pub fn groups_fit(s: Section) -> bool
-    requires { s.count ≤ 8 }
-    ensures { result ≡ all_of group_fits (take s.count s.groups) }
-{
-    let n = s.count;
-    for i in 0usize..n {
-        let g = s.groups[i];
-        if !group_fits(g) {
-            return false;
-        }
-    }
-    true
+    ITEM_WIDTH.contains(item.width.0)
+        && ITEM_LENGTH.contains(item.length.0)
+        && COEFFICIENTS.contains(item.bare as u32)
+        && COEFFICIENTS.contains(item.iced as u32)
+        && POSITION_FACTOR.contains(item.position as u32)
 }
 
 // Width, height, allowance and the number of groups.
 #[tactic(auto, unfolding(crate::specs::Fits::sizes_fit))]
-pub fn sizes_fit(s: Section) -> bool
-    ensures { result ≡ sizes_fit s }
+pub fn sizes_fit(section: &Section) -> bool
+    ensures { result ≡ sizes_fit section.now }
 {
-    if !within(SECTION_WIDTH, s.width.0) {
-        return false;
-    }
-    if !within(SECTION_HEIGHT, s.height.0) {
-        return false;
-    }
-    if s.height.0 % 2 != 0 {
-        return false;
-    }
-    if 4_294_967_296 <= s.allowance.0 {
-        return false;
-    }
-    1 <= s.count && s.count <= 8
+    SECTION_WIDTH.contains(section.width.0)
+        && SECTION_HEIGHT.contains(section.height.0)
+        && section.height.0 % 2 == 0
+        && section.allowance.0 < 4_294_967_296
+        && GROUP_COUNT.contains(section.groups.len() as u32)
 }
 
-// A_S under ice of thickness t.
-pub fn solid_under(t: Length, s: Section) -> Area
-    requires { (t.0 ≤ 50) × (s.count ≤ 8) × (all_of group_fits (take s.count s.groups) ≡ true) }
-    ensures { result ≡ solid_of t (take s.count s.groups) }
+// The areas of the groups under pressure q, where all are in range.
+fn measure_groups(ice: Ice, q: u16, groups: &[Group]) -> Option<Areas>
+    requires { length groups.now ≤ 8 }
+    ensures fit { is_some result ≡ all_of group_fits groups.now }
+    ensures areas { IfSome result (λ a. (a ≡ areas_of ice.thickness q groups.now) × SmallAreas a) }
 {
-    let n = s.count;
-    let mut sum: u64 = 0;
-    for i in 0usize..n {
-        let g = s.groups[i];
-        let a = group_area(t, g);
-        sum = sum + a.0;
-    }
-    Area(sum)
-}
-
-// The areas of the groups under pressure q, and whether all are in range and their A_S is at most this area.
-fn measure_groups(t: Length, q: u16, s: Section, most: Area) -> Measured
-    requires { (t.0 ≤ 50) × (s.count ≤ 8) }
-    ensures { MeasuredGroups t q (take s.count s.groups) most result }
-{
-    let n = s.count;
-    let mut areas = NO_AREAS;
-    for i in 0usize..n {
-        let g = s.groups[i];
-        if !group_fits(g) {
-            return Measured {
-                stands: false,
-                areas,
-            };
+    let mut areas = Areas::default();
+    for group in groups {
+        if !group_fits(*group) {
+            return None;
         }
-        areas = add_group(t, q, g, areas);
+        areas = add_group(ice, q, *group, areas);
     }
-    let solid = solid_area(areas);
-    Measured {
-        stands: solid.0 <= most.0,
-        areas,
-    }
+    Some(areas)
 }
 
 // The areas under pressure q of a section that stands bare and under ice of thickness t: A_S is at most A_u under the
 // ice, and so bare.
-pub fn measure(t: Length, q: u16, s: Section) -> Measured
-    ensures { MeasuredUnder t q s result }
+#[tactic(auto, unfolding(model::specs::Areas::solid))]
+pub fn measure(t: Length, q: u16, section: &Section) -> Option<Areas>
+    ensures stands { is_some result ≡ fits_under t section.now }
+    ensures areas { IfSome result (λ a. a ≡ areas_of t q (section_of section.now).groups) }
 {
-    if 50 < t.0 {
-        return Measured {
-            stands: false,
-            areas: NO_AREAS,
-        };
+    let ice = Ice::new(t)?;
+    if !sizes_fit(section) {
+        return None;
     }
-    if !sizes_fit(s) {
-        return Measured {
-            stands: false,
-            areas: NO_AREAS,
-        };
+    let areas = measure_groups(ice, q, &section.groups)?;
+    if areas.solid() <= gross_area(section) {
+        Some(areas)
+    } else {
+        None
     }
-    let gross = gross_area(s);
-    measure_groups(t, q, s, gross)
 }
 
 // Whether it stands. The pressure has no part in that.
-pub fn fits_under(t: Length, s: Section) -> bool
-    ensures { result ≡ fits_under t s }
+pub fn fits_under(t: Length, section: &Section) -> bool
+    ensures { result ≡ fits_under t section.now }
 {
-    let m = measure(t, 0, s);
-    m.stands
+    measure(t, 0, section).is_some()
 }

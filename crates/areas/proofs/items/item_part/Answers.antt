@@ -11,14 +11,15 @@ part : (t : Length) (it : Item) (x : ℕ) (a : Area) → x ≡ coefficient t it 
 unfolding item_part item_area
 part t it x a e f = rw (e, f)
 
-pub overflow_mul-result-2 : goal.overflow_mul-result-2
+pub returns-clause-value : goal.returns-clause-value
 unfolding item_area
-overflow_mul-result-2 c =
-    omega (arith, part c.args.t c.args.it _ _ c.coefficient-c.ensures.0 c.iced_area-a.ensures, item-bound c.args.t c.args.it c.requires.0 c.requires.1)
+returns-clause-value c = part c.args.ice.thickness c.args.item _ _ c.coefficient-coefficient.ensures.0 c.iced_area-area.ensures
 
-pub returns : goal.returns
+pub returns-clause-small : goal.returns-clause-small
 unfolding item_area
-returns c =
-    let e : c.coefficient-c.result * c.args.it.position * c.iced_area-a.result.0 ≡ item_part c.args.t c.args.it =
-    part c.args.t c.args.it _ _ c.coefficient-c.ensures.0 c.iced_area-a.ensures in
-    (e, omega (arith, item-bound c.args.t c.args.it c.requires.0 c.requires.1))
+returns-clause-small c =
+    omega (
+      arith,
+      part c.args.ice.thickness c.args.item _ _ c.coefficient-coefficient.ensures.0 c.iced_area-area.ensures,
+      item-bound c.args.ice.thickness c.args.item c.args.ice.thin c.requires,
+    )

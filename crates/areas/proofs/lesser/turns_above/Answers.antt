@@ -7,13 +7,13 @@ pub returns-in-Flat : goal.returns-in-Flat
 unfolding lesser_of
 returns-in-Flat c = λ q h. rw c.in-Flat.is
 
-pub returns-then-is_supercritical : goal.returns-then-is_supercritical
-returns-then-is_supercritical c = λ q h.
-    rw c.in-Round.is
-    (not-turned c.args.t c.args.p c.in-Round.d (sym c.is_supercritical.ensures ∙ c.if-is_supercritical.true) q h)
-
-pub returns-else-is_supercritical : goal.returns-else-is_supercritical
-returns-else-is_supercritical c = λ q h.
-    c.is_supercritical-else-is_supercritical.ensures
+pub returns-then-not-is_supercritical : goal.returns-then-not-is_supercritical
+returns-then-not-is_supercritical c = λ q h.
+    c.is_supercritical-then-not-is_supercritical.ensures
     ∙ rw c.in-Round.is
-    (turned c.args.t c.args.p c.in-Round.d (sym c.is_supercritical.ensures ∙ c.if-is_supercritical.false) q h)
+    (turned c.args.t c.args.p c.in-Round.d (sym c.is_supercritical.ensures ∙ c.if-not-is_supercritical.true) q h)
+
+pub returns-else-not-is_supercritical : goal.returns-else-not-is_supercritical
+returns-else-not-is_supercritical c = λ q h.
+    rw (c.in-Round.is, c.if-not-is_supercritical.false)
+    (not-turned c.args.t c.args.p c.in-Round.d (sym c.is_supercritical.ensures ∙ c.if-not-is_supercritical.false) q h)

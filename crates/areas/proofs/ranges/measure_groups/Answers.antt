@@ -1,49 +1,27 @@
-use Rattle.std.proofs.Common.{◌≡◌, ◌<◌, refl, sym, ap, ◌∙◌, length, take, arith, rules}
+use Rattle.std.proofs.Common.{refl, sym, ◌∙◌, arith}
+use Rattle.std.proofs.lemmas.List.{take_all}
 use Rattle.exact.proofs.Bools.{and-join}
-use Rattle.model.specs.Areas.{solid, solid_of}
 use Rattle.model.specs.Valid.{group_fits}
-use Rattle.model.proofs.Lists.{length-mapped, all_more, all-fails}
-use Rattle.model.proofs.Solid.{solid-of}
+use Rattle.model.proofs.Lists.{all_more}
 use Rattle.areas.proofs.Facts.{no_group}
 use Rattle.areas.proofs.Sums.{after_none, after-more, after-small}
 use Rattle.areas.proofs.ranges.measure_groups.Goals as goal
 
-pub loop-i-init : goal.loop-i-init
-loop-i-init c = (refl, after_none _ _ _)
+pub loop-group-init : goal.loop-group-init
+loop-group-init c = record { fit = refl; areas = after_none _ _ _ {a = c.default-areas.result} c.default-areas.ensures }
 
-pub returns-then-not-group_fits : goal.returns-then-not-group_fits
-returns-then-not-group_fits c =
-    let s = c.args.s in
-    let long : length s.groups ≡ 8 = search (rules, length-mapped, c.well_formed) in
+pub loop-group-preserved : goal.loop-group-preserved
+loop-group-preserved c =
+    let gs = c.args.groups.now in
+    let l = c.loop-group in
+    let fits = sym c.group_fits.ensures ∙ c.if-not-group_fits.false in
     record {
-      stands = rw (all-fails group_fits s.groups s.count c.loop-i.i no_group c.loop-i-test.true (omega arith) (sym c.group_fits.ensures ∙ c.if-not-group_fits.true));
-      areas = λ z. cc;
+      fit = all_more group_fits gs l.group-index no_group c.loop-group-test.true ∙ and-join l.invariant.fit fits;
+      areas = after-more c.args.ice.thickness c.args.q gs l.group-index no_group c.args.ice.thin c.loop-group-test.true fits l.invariant.areas c.add_group-areas.ensures;
     }
 
-pub add_group-areas-requires : goal.add_group-areas-requires
-add_group-areas-requires c =
-    (c.requires.0, sym c.group_fits.ensures ∙ c.if-not-group_fits.false, after-small (omega arith) c.loop-i.invariant.1)
-
-pub loop-i-preserved : goal.loop-i-preserved
-loop-i-preserved c =
-    let gs = c.args.s.groups in
-    let i = c.loop-i.i in
-    let long : length gs ≡ 8 = search (rules, length-mapped, c.well_formed) in
-    let h : i < length gs = omega arith in
-    let f = sym c.group_fits.ensures ∙ c.if-not-group_fits.false in (
-      all_more group_fits gs i no_group h ∙ and-join c.loop-i.invariant.0 f,
-      after-more c.args.t c.args.q gs i no_group c.requires.0 h f c.loop-i.invariant.1 c.add_group-areas.ensures,
-    )
-
-pub solid_area-solid-requires : goal.solid_area-solid-requires
-solid_area-solid-requires c = after-small (omega arith) c.loop-i.invariant.1
-
-pub returns : goal.returns
-returns c =
-    let a = c.args in
-    let l = c.loop-i in
-    let sums = l.invariant.1.sums in
-    let e : l.i ≡ a.s.count = omega arith in
-    let k : c.solid_area-solid.result ≡ solid_of a.t (take l.i a.s.groups) =
-    c.solid_area-solid.ensures ∙ ap solid sums ∙ solid-of a.t a.q (take l.i a.s.groups) in
-    record { stands = rw (← e, l.invariant.0, k); areas = λ z. rw (← e) sums }
+pub returns-clause-areas : goal.returns-clause-areas
+returns-clause-areas c =
+    let l = c.loop-group in
+    let few = c.requires in
+    (rw (take_all _ _ c.loop-group-test.false) at l.invariant.areas.sums, after-small {t = c.args.ice.thickness} {q = c.args.q} {l = c.args.groups.now} (omega arith) l.invariant.areas)

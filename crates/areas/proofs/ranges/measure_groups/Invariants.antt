@@ -4,5 +4,8 @@ use Rattle.model.specs.Valid.{group_fits}
 use Rattle.areas.proofs.Sums.{AreasAfter}
 use Rattle.areas.proofs.ranges.measure_groups.Given as goal
 
-abbrev pub invariant-loop-i : goal.invariant-loop-i
-invariant-loop-i l = (all_of group_fits (take l.i l.s.groups) ≡ true) × AreasAfter l.t l.q l.s.groups l.i l.areas
+abbrev pub invariant-loop-group : goal.invariant-loop-group
+invariant-loop-group l = record {
+  fit : all_of group_fits (take l.group-index l.groups) ≡ true;
+  areas : AreasAfter l.ice.thickness l.q l.groups l.group-index l.areas;
+}
