@@ -1,5 +1,5 @@
 -- What is wrong with a case: the first test that fails.
-use Rattle.std.specs.Prelude.{ℕ, ◌+◌, ◌*◌, ◌≤◌, ◌≡◌, Bool, true, false, cond, ◌&&◌, leb}
+use Rattle.std.specs.Prelude.{ℕ, ◌+◌, ◌*◌, Bool, cond, ◌&&◌, leb, length, Option, Some, None}
 use Rattle.units.specs.declared.Length.{Length}
 use Rattle.model.specs.declared.Section.{Section}
 use Rattle.model.specs.Lists.{all_of}
@@ -9,18 +9,18 @@ use Rattle.model.specs.Areas.{thickness, gross, solid_of, bare_solid}
 use Rattle.model.specs.File.{legs_of}
 use Rattle.model.specs.Machine.{direction_fits}
 use Rattle.model.specs.Valid.{group_fits}
-use Rattle.areas.specs.Fits.{sizes_fit, fits_under}
+use Rattle.areas.specs.Fits.{sizes_fit}
 use Rattle.case_words.specs.declared.Case.{Case}
 use Rattle.case_words.specs.declared.Fault.{Fault}
 use Rattle.case_words.specs.declared.Fault.TheVariants as fault
 
 -- the fault x where the test fails, else what the tests after it say
-abbrev pub tested : Bool → Fault → Fault → Fault
-tested met x rest = cond met rest x
+abbrev pub tested : Bool → Fault → Option Fault → Option Fault
+tested met x rest = cond met rest (Some x)
 
 -- the place after the groups
 abbrev pub groups_end : Section → ℕ
-groups_end s = 8 + 3 * s.count
+groups_end s = 8 + 3 * length s.groups.items
 
 -- A_S is at most A_u, bare and under ice of thickness t
 abbrev pub solid_fits : Length → Section → Bool
@@ -29,15 +29,15 @@ solid_fits t s =
     && leb (solid_of t (section_of s).groups).0 (gross (section_of s)).0
 
 -- the section, where there are n numbers
-unfoldable pub section_fault : Length → ℕ → Section → Fault
+unfoldable pub section_fault : Length → ℕ → Section → Option Fault
 section_fault t n s =
     tested (sizes_fit s) fault.Sizes
     (tested (leb (groups_end s) n) fault.Missing
     (tested (all_of group_fits (section_of s).groups) fault.Groups
-    (tested (solid_fits t s) fault.Solidity fault.None)))
+    (tested (solid_fits t s) fault.Solidity None)))
 
 -- a case of n numbers
-unfoldable pub fault_of : Case → ℕ → Fault
+unfoldable pub fault_of : Case → ℕ → Option Fault
 fault_of c n =
     tested (leb 8 n) fault.Missing
     (tested (within leg_count c.legs) fault.Legs
@@ -46,23 +46,3 @@ fault_of c n =
     (tested (within structure_factor c.factor) fault.Factor
     (tested (within pressures c.pressure) fault.Pressure
     (section_fault (thickness c.ice) n c.section))))))
-
-abbrev pub is_none : Fault → Bool
-is_none fault.None = true
-is_none fault.Missing = false
-is_none fault.Legs = false
-is_none fault.Direction = false
-is_none fault.Ice = false
-is_none fault.Factor = false
-is_none fault.Pressure = false
-is_none fault.Sizes = false
-is_none fault.Groups = false
-is_none fault.Solidity = false
-
--- what is known of a case with no fault
-pub record SoundCase (c : Case) : Type 0 where
-  pub ice : c.ice ≤ 5
-  pub factor : c.factor ≤ 2000
-  pub pressure : c.pressure ≤ 5000
-  pub count : c.section.count ≤ 8
-  pub fits : fits_under (thickness c.ice) c.section ≡ true

@@ -1,5 +1,5 @@
 -- What a run of numbers means: a section, the wind on it, and items.
-use Rattle.std.specs.Prelude.{ℕ, ◌+◌, ◌*◌, min, cond, List, eqb, ltb, get_or}
+use Rattle.std.specs.Prelude.{ℕ, ◌+◌, ◌*◌, min, cond, List, [], eqb, leb, ltb, get_or}
 use Rattle.units.specs.declared.Length.{Length}
 use Rattle.model.specs.declared.Member.{Member}
 use Rattle.model.specs.declared.Member.TheVariants.{Flat, Round}
@@ -20,6 +20,9 @@ in32 x = min x 4_294_967_295
 abbrev pub in16 : ℕ → ℕ
 in16 x = min x 65_535
 
+abbrev pub in8 : ℕ → ℕ
+in8 x = min x 255
+
 -- kinds are 0 and 1; any other has size 0, which no member may have
 abbrev pub member_read : ℕ → ℕ → Member
 member_read kind size =
@@ -32,14 +35,17 @@ group_of ws i =
       length = record { 0 = in32 (at ws (10 + 3 * i)) };
     }
 
+-- so many groups; none, which no section may have, where they are more than 8
+unfoldable pub groups_of : List ℕ → List Group
+groups_of ws = cond (leb (in32 (at ws 7)) 8) (list_to (group_of ws) (in32 (at ws 7))) []
+
 unfoldable pub section_in : List ℕ → Section
 section_in ws =
     record {
       width = record { 0 = in32 (at ws 5) };
       height = record { 0 = in32 (at ws 6) };
       allowance = record { 0 = 0 };
-      count = in32 (at ws 7);
-      groups = list_to (group_of ws) 8;
+      groups = record { items = groups_of ws };
     }
 
 unfoldable pub case_in : List ℕ → Case
@@ -55,14 +61,14 @@ case_in ws =
 
 -- a tower has at most 32 sections
 abbrev pub width_on : ℕ → ℕ → Length
-width_on section width = record { 0 = cond (ltb section 32) (in32 width) 0 }
+width_on section width = record { 0 = cond (ltb section 32) width 0 }
 
 unfoldable pub item_of : List ℕ → ℕ → Item
 item_of ws p =
     record {
       number = 0;
-      section = min (at ws p) 255;
-      width = width_on (at ws p) (at ws (p + 1));
+      section = in8 (at ws p);
+      width = width_on (at ws p) (in32 (at ws (p + 1)));
       length = record { 0 = in32 (at ws (p + 2)) };
       bare = in16 (at ws (p + 3));
       iced = in16 (at ws (p + 4));

@@ -1,76 +1,70 @@
 // What is wrong with a case.
-ghost use Rattle.std.specs.Prelude.{◌≡◌, ◌≤◌};
-ghost use Rattle.model.specs.File.{legs_of};
-ghost use Rattle.model.specs.Machine.{direction_fits};
-ghost use Rattle.case_words.specs.Faults.{groups_end, section_fault, fault_of, SoundCase};
+ghost use Rattle.std.specs.Prelude.{◌≡◌, true, ◌≤◌, None, Some, OnOk, IfOk, IfErr};
+ghost use Rattle.areas.specs.Fits.{fits_under};
+ghost use Rattle.case_words.specs.Faults.{groups_end, section_fault, fault_of};
 
+use crate::sound::SoundCase;
 use crate::{Case, Fault};
+use areas::ice::Ice;
 use areas::ranges::{fits_under, groups_fit, sizes_fit};
-use areas::section::thickness;
-use model::ranges::{DIRECTIONS, ICE_CLASSES, LEG_COUNT, PRESSURES, STRUCTURE_FACTOR, within};
+use model::ranges::{ICE_CLASSES, LEG_COUNT, PRESSURES, STRUCTURE_FACTOR};
 use model::{Legs, Section};
-use units::Length;
-
-// k is 0 to 23, and even on three legs.
-fn direction_fits(legs: u32, k: u32) -> bool
-    ensures { result ≡ direction_fits (legs_of legs) k }
-{
-    if legs == 3 {
-        return within(DIRECTIONS, k) && k % 2 == 0;
-    }
-    within(DIRECTIONS, k)
-}
 
 // The place after the groups.
-pub fn groups_end(s: Section) -> usize
-    requires { s.count ≤ 8 }
-    ensures { (result ≡ groups_end s) × (result ≤ 32) }
+pub fn groups_end(section: &Section) -> usize
+    ensures value { result ≡ groups_end section.now }
+    ensures within { result ≤ 32 }
 {
-    8 + 3 * s.count
+    8 + 3 * section.groups.len()
 }
 
-// The section, where there are n numbers and the ice is t thick.
-fn section_fault(t: Length, n: usize, s: Section) -> Fault
-    requires { t.0 ≤ 50 }
-    ensures { result ≡ section_fault t n s }
+// The section, where there are n numbers.
+#[tactic(auto, using(crate::proofs::Solidity::solid_decides), unfolding(crate::specs::Faults::section_fault))]
+fn test_section(ice: Ice, n: usize, section: &Section) -> Result<(), Fault>
+    ensures none { OnOk result (section_fault ice.thickness n section.now ≡ None) }
+    ensures stands { OnOk result (fits_under ice.thickness section.now ≡ true) }
+    ensures first { IfErr result (λ fault. section_fault ice.thickness n section.now ≡ Some fault) }
 {
-    if !sizes_fit(s) {
-        return Fault::Sizes;
+    if !sizes_fit(section) {
+        return Err(Fault::Sizes);
     }
-    if n < groups_end(s) {
-        return Fault::Missing;
+    if n < groups_end(section) {
+        return Err(Fault::Missing);
     }
-    if !groups_fit(s) {
-        return Fault::Groups;
+    if !groups_fit(&section.groups) {
+        return Err(Fault::Groups);
     }
-    if !fits_under(t, s) {
-        return Fault::Solidity;
+    if !fits_under(ice.thickness, section) {
+        return Err(Fault::Solidity);
     }
-    Fault::None
+    Ok(())
 }
 
 // A case that was read from n numbers.
-pub fn fault_of(c: Case, n: usize) -> Fault
-    ensures { (result ≡ fault_of c n) × (result ≡ Fault.None → SoundCase c) }
+#[tactic(auto, unfolding(crate::specs::Faults::fault_of))]
+pub fn test_case(case: &Case, n: usize) -> Result<SoundCase, Fault>
+    ensures none { OnOk result (fault_of case.now n ≡ None) }
+    ensures sound { IfOk result (λ sound. sound.case.now ≡ case.now) }
+    ensures first { IfErr result (λ fault. fault_of case.now n ≡ Some fault) }
 {
     if n < 8 {
-        return Fault::Missing;
+        return Err(Fault::Missing);
     }
-    if !within(LEG_COUNT, c.legs) {
-        return Fault::Legs;
+    if !LEG_COUNT.contains(case.legs) {
+        return Err(Fault::Legs);
     }
-    if !direction_fits(c.legs, c.direction) {
-        return Fault::Direction;
+    if !Legs::from(case.legs).allows_direction(case.direction) {
+        return Err(Fault::Direction);
     }
-    if !within(ICE_CLASSES, c.ice) {
-        return Fault::Ice;
+    if !ICE_CLASSES.contains(case.ice) {
+        return Err(Fault::Ice);
     }
-    if !within(STRUCTURE_FACTOR, c.factor) {
-        return Fault::Factor;
+    if !STRUCTURE_FACTOR.contains(case.factor) {
+        return Err(Fault::Factor);
     }
-    if !within(PRESSURES, c.pressure as u32) {
-        return Fault::Pressure;
+    if !PRESSURES.contains(case.pressure as u32) {
+        return Err(Fault::Pressure);
     }
-    let s = c.section;
-    section_fault(thickness(c.ice), n, s)
+    test_section(Ice::of_class(case.ice), n, &case.section)?;
+    Ok(SoundCase { case })
 }

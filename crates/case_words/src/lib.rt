@@ -5,6 +5,7 @@
 pub mod faults;
 mod groups;
 pub mod items;
+pub mod sound;
 mod words;
 
 ghost use Rattle.std.specs.Prelude.{◌≡◌};
@@ -15,7 +16,7 @@ use model::Section;
 use units::{Force, Length};
 
 // The section and the wind on it, with no test of any range.
-#[derive(Clone, Copy)]
+#[derive(Debug, PartialEq, Eq, Drop)]
 pub struct Case {
     pub legs: u32,
     pub direction: u32,
@@ -25,11 +26,10 @@ pub struct Case {
     pub section: Section,
 }
 
-// The first thing that is wrong with a case, or nothing. Missing: there are fewer than 8 numbers, or, after Sizes, too few for the groups.
+// The first thing that is wrong with a case. Missing: there are fewer than 8 numbers, or, after Sizes, too few for the groups.
 // Sizes: the width, the height or the number of groups. Solidity: A_S is above A_u, bare or under the ice.
-#[derive(Clone, Copy)]
+#[derive(Clone, Copy, Debug, PartialEq, Eq, Hash)]
 pub enum Fault {
-    None,
     Missing,
     Legs,
     Direction,
@@ -41,30 +41,28 @@ pub enum Fault {
     Solidity,
 }
 
-// All 8 groups are read, however many count.
+#[tactic(auto, unfolding(crate::specs::Words::section_in))]
 fn section_of(numbers: &[u64]) -> Section
     ensures { result ≡ section_in numbers.now }
 {
-    let groups = groups::groups_of(numbers);
     Section {
         width: Length(word32(numbers, 5)),
         height: Length(word32(numbers, 6)),
         allowance: Force(0),
-        count: word32(numbers, 7) as usize,
-        groups,
+        groups: groups::groups_of(numbers),
     }
 }
 
+#[tactic(auto, unfolding(crate::specs::Words::case_in))]
 pub fn case_of(numbers: &[u64]) -> Case
     ensures { result ≡ case_in numbers.now }
 {
-    let section = section_of(numbers);
     Case {
         legs: word32(numbers, 0),
         direction: word32(numbers, 1),
         ice: word32(numbers, 2),
         factor: word32(numbers, 3),
         pressure: word16(numbers, 4),
-        section,
+        section: section_of(numbers),
     }
 }

@@ -1,8 +1,9 @@
 // Document 01's ranges, for the file and for the calls. specs/Ranges has the same names.
 ghost use Rattle.std.specs.Prelude.{◌≡◌};
 ghost use Rattle.model.specs.Ranges as ranges;
+ghost use Rattle.model.specs.Machine.{direction_fits};
 
-use crate::Range;
+use crate::{Legs, Range};
 
 pub const LEG_COUNT: Range = Range { low: 3, high: 4 };
 
@@ -64,5 +65,14 @@ impl Range {
         ensures { result ≡ ranges.within self x }
     {
         self.low <= x && x <= self.high
+    }
+}
+
+impl Legs {
+    // Whether k is a direction: with three legs only even k.
+    pub fn allows_direction(self, k: u32) -> bool
+        ensures { result ≡ direction_fits self k }
+    {
+        DIRECTIONS.contains(k) && (self == Legs::Four || k % 2 == 0)
     }
 }
