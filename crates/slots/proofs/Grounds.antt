@@ -10,9 +10,10 @@ use native.Mathlib.Omega.{arith}
 use lib.Dec.{eqb, leb}
 use lib.ListN.{length, take, drop, set, length-map, length-drop}
 use lib.Seq.{take-suc-set, drop-set-add, get_or-take, get_or-drop, length-take-le, ext_get_or}
+use Rattle.std.proofs.lemmas.Bool.Decides.{nat_tests}
 use Rattle.units.specs.declared.Length.{Length}
 use Rattle.model.specs.Lists.{list_to}
-use Rattle.model.specs.Ranges.{within, ice_classes, structure_factor, pressures}
+use Rattle.model.specs.Ranges.{within, ice_classes, structure_factor}
 use Rattle.model.specs.Areas.{thickness, gross, solid_of}
 use Rattle.model.specs.File.{legs_of}
 use Rattle.model.specs.Valid.{section_fits}
@@ -35,6 +36,7 @@ use Rattle.slots.specs.Held.{
   section_of,
   least_section,
   section_at,
+  pressure_of,
   pressure_at,
   ground_of,
   is_windy,
@@ -45,8 +47,8 @@ use Rattle.slots.specs.Held.{
   wind_in,
   state_of,
 }
-use Rattle.slots.proofs.Lists.{at-most, list_same}
-use Rattle.slots.proofs.Codec.{least-stands, pressure-good, pressure-bad}
+use Rattle.slots.proofs.Lists.{list_same}
+use Rattle.slots.proofs.Codec.{least-stands}
 
 -- the state
 pub standing-as : (l : Slots) → is_standing l ≡ true
@@ -61,11 +63,11 @@ fallen l h = rw h
 -- the counts
 pub count-few : (l : Slots) → count_in l ≤ 32
 unfolding count_in
-count-few l = at-most 32 (cell l 0 2)
+count-few l = omega arith
 
 pub held-few : (l : Slots) → held_in l ≤ 64
 unfolding held_in
-held-few l = at-most 64 (cell l 0 3)
+held-few l = omega arith
 
 pub section-count : (l : Slots) → length (tower_in l).sections ≡ count_in l
 unfolding ground_of
@@ -131,11 +133,8 @@ module _ (l : Slots) (t : Length) (thin : t.0 ≤ 50) (i : ℕ) where
   section-solid = (and_split (section_fits (section_at l t i)) _ (stands t thin _ _)).1
 
 pub pressure-small : (l : Slots) (i : ℕ) → pressure_at l i ≤ 5000
-pressure-small l i = by-case (within pressures (cell l (1 + 2 * i) 3)) refl
-  where
-    by-case : (b : Bool) → within pressures (cell l (1 + 2 * i) 3) ≡ b → pressure_at l i ≤ 5000
-    by-case true e = let k : _ = pressure-good (cell l (1 + 2 * i) 3) e in omega arith
-    by-case false e = let k : _ = pressure-bad (cell l (1 + 2 * i) 3) e in omega arith
+unfolding pressure_of
+pressure-small l i = grind (arith, nat_tests)
 
 -- the sections and pressures of the ground are those of the slots
 section-slot : (l : Slots) (j : ℕ) → j < 64 → slot (take 64 (drop 1 l)) j ≡ slot l (1 + j)

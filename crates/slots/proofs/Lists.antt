@@ -1,41 +1,20 @@
--- Lists that are given by their elements; counts that are no more than the slots.
-use Prim.Native.Nat.{ℕ, zero, suc, ◌+◌, ◌≤◌, ◌<◌}
+-- Lists that are given by their elements.
+use Prim.Native.Nat.{ℕ, zero, suc, ◌+◌, ◌-◌, ◌≤◌, ◌<◌}
 use mathlib.Core.Path.{◌≡◌, refl, ap, sym, ◌∙◌}
-use mathlib.Core.Bool.{Bool, true, false, cond, ◌&&◌, ◌||◌}
-use mathlib.Core.List.{List, [], ◌∷◌, ◌++◌, map}
+use mathlib.Core.Bool.{Bool, true, false, ◌&&◌, ◌||◌}
+use mathlib.Core.List.{List, [], ◌∷◌, ◌++◌, map, map-append}
 use mathlib.Core.Logic.{⊎_elim}
 use native.Mathlib.Nat.{eq-or-lt_of_le}
 use native.Mathlib.Numerals.{add-one}
 use native.Mathlib.Omega.{arith}
-use lib.Dec.{leb}
-use lib.ListN.{length, take, get_or, get_or-append}
+use lib.ListN.{length, take, set, replicate, get_or, get_or-append}
 use lib.Seq.{take-suc, get_or_at}
-use borrow.Author.Tests.{le-leb, lt-leb, leb-true}
+use Rattle.std.proofs.Common.{append_assoc}
+use Rattle.std.proofs.lemmas.List.{set_at, map_more}
+use Rattle.std.proofs.lemmas.Grind.{common_steps}
 use Rattle.model.specs.Lists.{list_to, all_of, any_of}
 use Rattle.model.proofs.Lists.{length-list_to, all-of-append, any_append, all-at, none-at}
 use Rattle.exact.proofs.Bools.{clash}
-use Rattle.slots.specs.Held.{at_most}
-
-pub beyond : (most n : ℕ) → most < n → at_most most n ≡ most
-unfolding at_most
-beyond most n h = rw (lt-leb n most h)
-
-pub within : (most n : ℕ) → n ≤ most → at_most most n ≡ n
-unfolding at_most
-within most n h = rw (le-leb n most h)
-
-pub at-most : (most n : ℕ) → at_most most n ≤ most
-unfolding at_most
-at-most most n = by-case (leb n most) refl
-  where
-    by-case : (b : Bool) → leb n most ≡ b → cond b n most ≤ most
-    by-case true e = omega (arith, leb-true n most e)
-    by-case false e = omega arith
-
-pub map-take : {A B : Type 0} (f : A → B) (n : ℕ) (l : List A) → map f (take n l) ≡ take n (map f l)
-map-take f zero l = refl
-map-take f (suc n) [] = refl
-map-take f (suc n) (x ∷ l) = ap (λ m. f x ∷ m) (map-take f n l)
 
 module _ {A : Type 0} where
   pub list-more : (f : ℕ → A) (n : ℕ) → list_to f (n + 1) ≡ list_to f n ++ (f n ∷ [])
@@ -63,6 +42,21 @@ module _ {A : Type 0} where
   pub list-front : (f : ℕ → A) (d : A) (m n : ℕ) → n ≤ m → take n (list_to f m) ≡ list_to f n
   list-front f d m n h =
       sym (list-take f (list_to f m) d n (omega (arith, length-list_to f m)) (λ j g. sym (get_or-list_to f d m j (omega arith))))
+
+  pub list_to_map : {B : Type 0} (g : A → B) (l : List A) (d : A) (n : ℕ) → n ≤ length l → list_to (λ j. g (get_or l j d)) n ≡ map g (take n l)
+  unfolding list_to
+  list_to_map g l d zero h = refl
+  list_to_map g l d (suc n) h = rw (list_to_map g l d n (omega arith), take-suc l n d h, map-append) refl
+
+-- one number more in front of the zeros
+pub filled : {A : Type 0} (f : A → ℕ) (l : List A) (d : A) (j n x : ℕ) → x ≡ f (get_or l j d) → j < length l → j < n
+    → set (map f (take j l) ++ replicate (n - j) 0) j x ≡ map f (take (j + 1) l) ++ replicate (n - (j + 1)) 0
+filled f l d j n x e h k =
+    let more : n - j ≡ suc (n - (j + 1)) = omega arith in
+    let long : length (map f (take j l)) ≡ j = grind (arith, common_steps) in
+    rw (more, e, map_more f l j d h)
+    (set_at (map f (take j l)) 0 (replicate (n - (j + 1)) 0) (f (get_or l j d)) j long
+    ∙ sym (append_assoc (map f (take j l)) (f (get_or l j d) ∷ []) (replicate (n - (j + 1)) 0)))
 
 -- tests over such lists
 and-only : (a b : Bool) → (a && (b && true)) ≡ (a && b)

@@ -1,46 +1,38 @@
 -- The items' sums over the items' slots, item by item.
-use Prim.Native.Nat.{ℕ, ◌+◌, ◌≤◌, ◌<◌}
-use mathlib.Core.Path.{◌≡◌, ap, sym, subst, ◌∙◌}
-use mathlib.Core.List.{List, [], map}
-use native.Mathlib.Omega.{arith}
-use lib.ListN.{length, drop, get_or, set, length-map, length-drop, get_or-map}
-use lib.Seq.{get_or-drop}
+use Rattle.std.proofs.Common.{◌≡◌, ℕ, ◌+◌, ◌≤◌, ◌<◌, List, [], map, length, get_or, set, arith, ap, sym, subst, ◌∙◌}
+use Rattle.std.proofs.lemmas.List.{length-map, get_or-map, take_all}
 use Rattle.units.specs.declared.Length.{Length}
 use Rattle.model.specs.declared.Item.{Item}
 use Rattle.model.specs.Force.{item_part, item_sum, largest_item}
 use Rattle.areas.specs.Sums.{ItemSums}
 use Rattle.areas.proofs.Sums.{SumsAfter, sums_on, sums-off}
-use Rattle.slots.specs.Held.{Slots, slot, item_of, items_to}
-use Rattle.slots.proofs.Lists.{map-take}
+use Rattle.slots.specs.Held.{Slots, slot, item_of}
 
--- the item of slot 65 + n more
-module _ (s : Slots) (long : length s ≡ 129) (t : Length) (n : ℕ) (h : n < 64) where
-  abbrev items : List Item
-  items = map item_of (drop 65 s)
+-- the item of slot n more
+module _ (s : Slots) (t : Length) (n : ℕ) (h : n < length s) {sums : List ℕ} (before : SumsAfter t (map item_of s) n sums)
+    {x : Item} (is : x ≡ item_of (slot s n)) {section : ℕ} (on : section ≡ x.section) where
+  below : n < length (map item_of s)
+  below = omega (arith, length-map s item_of)
 
-  below : n < length items
-  below = omega (arith, length-map (drop 65 s) item_of, length-drop 65 s)
+  same : get_or (map item_of s) n (item_of []) ≡ x
+  same = get_or-map item_of s n [] (item_of []) h ∙ sym is
 
-  item-at : get_or items n (item_of []) ≡ item_of (slot s (65 + n))
-  item-at = get_or-map item_of (drop 65 s) n [] ∙ ap item_of (get_or-drop 65 s n [])
+  hung : (get_or (map item_of s) n (item_of [])).section ≡ section
+  hung = ap (λ (y : Item). y.section) same ∙ sym on
 
-  module _ {sums : List ℕ} (before : SumsAfter t items n sums) {x : Item} (is : x ≡ item_of (slot s (65 + n))) where
-    same : get_or items n (item_of []) ≡ x
-    same = item-at ∙ sym is
+  pub item_on : {part : ℕ} → part ≡ item_part t x → part ≤ largest_item → section < 32
+      → SumsAfter t (map item_of s) (n + 1) (set sums section (get_or sums section 0 + part))
+  item_on {part} e b =
+      subst (λ (k : ℕ). k < 32 → SumsAfter t (map item_of s) (n + 1) (set sums k (get_or sums k 0 + part))) hung
+      (sums_on t (map item_of s) n (item_of []) below before (e ∙ ap (item_part t) (sym same)) b)
 
-    pub item_on : {part : ℕ} → part ≡ item_part t x → part ≤ largest_item → x.section < 32
-        → SumsAfter t items (n + 1) (set sums x.section (get_or sums x.section 0 + part))
-    item_on {part} =
-        subst (λ (y : Item). part ≡ item_part t y → part ≤ largest_item → y.section < 32 → SumsAfter t items (n + 1) (set sums y.section (get_or sums y.section 0 + part)))
-        same (sums_on t items n (item_of []) below before)
+  pub item-off : 32 ≤ section → SumsAfter t (map item_of s) (n + 1) sums
+  item-off k = sums-off t (map item_of s) n (item_of []) below before (omega (arith, hung))
 
-    pub item-off : 32 ≤ x.section → SumsAfter t items (n + 1) sums
-    item-off = subst (λ (y : Item). 32 ≤ y.section → SumsAfter t items (n + 1) sums) same (sums-off t items n (item_of []) below before)
-
--- after n items, their sums
-pub items-sum : (s : Slots) (t : Length) (n : ℕ) → n ≤ 64 → {sums : List ℕ} → SumsAfter t (map item_of (drop 65 s)) n sums → ItemSums t (items_to s n) sums
-items-sum s t n h a =
+-- after all of them
+pub items-sum : (s : Slots) (t : Length) → length s ≤ 64 → {sums : List ℕ} → SumsAfter t (map item_of s) (length s) sums → ItemSums t (map item_of s) sums
+items-sum s t h a =
     record {
-      sum = λ i q. a.sum i q ∙ ap (item_sum t i) (sym (map-take item_of n (drop 65 s)));
+      sum = λ i q. a.sum i q ∙ ap (item_sum t i) (take_all (length s) (map item_of s) (omega (arith, length-map s item_of)));
       small = λ i q. omega (arith, a.small i q);
     }

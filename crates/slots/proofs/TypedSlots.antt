@@ -1,24 +1,22 @@
 -- The slots of an item and of a section are of their type.
-use Prim.Native.Nat.{ℕ, ◌^◌, ◌≤◌, ◌<◌}
-use mathlib.Core.Path.{◌≡◌, refl}
-use mathlib.Core.Bool.{Bool, true, false, cond}
-use native.Mathlib.Omega.{arith}
-use lib.Dec.{ltb}
-use lib.ListN.{get_or}
+use Rattle.std.proofs.Common.{◌≡◌, ℕ, zero, suc, ◌^◌, ◌-◌, ◌≤◌, ◌<◌, Bool, true, false, cond, List, [], ◌∷◌, map, length, replicate, refl, eq-eqb, arith}
+use Rattle.std.proofs.lemmas.List.{length-append, length-map, length-replicate}
 use borrow.Author.Tests.{lt-ltb}
 use Rattle.model.specs.declared.Group.{Group}
 use Rattle.model.specs.declared.Item.{Item}
 use Rattle.model.specs.declared.Member.{Member}
 use Rattle.model.specs.declared.Member.TheVariants.{Flat, Round}
-use Rattle.model.specs.declared.Section as stored
 use Rattle.model.specs.Bytes.{kind_of}
-use Rattle.model.specs.Calls.{typed_item}
-use Rattle.model.specs.Tower as tower
+use Rattle.model.specs.Calls.{typed_item, bits}
+use Rattle.model.specs.Lists.{all_of}
+use Rattle.model.specs.Tower.{Section}
 use Rattle.model.specs.Valid.{group_fits, section_fits}
+use Rattle.model.proofs.Lists.{all_append}
 use Rattle.model.proofs.Sections.{section-facts}
 use Rattle.model.proofs.Typed.{item-bounds}
+use Rattle.exact.proofs.Bools.{and-join}
 use Rattle.areas.proofs.Facts.{group-facts}
-use Rattle.slots.specs.Held.{slot_of, packed, group_number, group_at, field_slot, group_slot, no_group}
+use Rattle.slots.specs.Held.{slot_of, packed, group_number, field_slot, group_slot}
 use Rattle.slots.specs.Nexts.{typed_slot}
 
 pub item-typed : (it : Item) → typed_item it ≡ true → typed_slot (slot_of it) ≡ true
@@ -34,15 +32,15 @@ item-typed it h =
       lt-ltb it.position (2 ^ 32) (omega (arith, b.position)),
     )
 
-pub fields-typed : (x : stored.Section) (q : ℕ) → section_fits (tower.section_of x) ≡ true → x.count ≤ 8 → q < 2 ^ 32 → typed_slot (field_slot x q) ≡ true
-fields-typed x q h few small =
-    let f = section-facts (tower.section_of x) h in
+pub fields-typed : (x : Section) (q : ℕ) → section_fits x ≡ true → q < 2 ^ 32 → typed_slot (field_slot x q) ≡ true
+fields-typed x q h small =
+    let f = section-facts x h in
     rw (
       lt-ltb x.width.0 (2 ^ 32) (omega (arith, f.width.high)),
       lt-ltb x.height.0 (2 ^ 32) (omega (arith, f.height.high)),
       lt-ltb x.allowance.0 (2 ^ 32) f.allowance,
       lt-ltb q (2 ^ 32) small,
-      lt-ltb x.count (2 ^ 32) (omega arith),
+      lt-ltb (length x.groups) (2 ^ 32) (omega (arith, f.count.high)),
     )
 
 kind-small : (m : Member) → kind_of m ≤ 1
@@ -57,8 +55,17 @@ number_small g = by-case (group_fits g) refl
     by-case true e = let f = group-facts g e in omega (arith, kind-small g.member, f.size.high, f.length.high)
     by-case false e = omega arith
 
-pub groups-typed : (x : stored.Section) → typed_slot (group_slot x) ≡ true
-groups-typed x = rw (at 0, at 1, at 2, at 3, at 4, at 5, at 6, at 7)
-  where
-    at : (j : ℕ) → ltb (group_at x j) (2 ^ 32) ≡ true
-    at j = lt-ltb (group_at x j) (2 ^ 32) (number_small (get_or x.groups j no_group))
+all_numbers : (gs : List Group) → all_of (bits 32) (map group_number gs) ≡ true
+all_numbers [] = refl
+all_numbers (g ∷ gs) = and-join (lt-ltb (group_number g) (2 ^ 32) (number_small g)) (all_numbers gs)
+
+all_zeros : (n : ℕ) → all_of (bits 32) (replicate n 0) ≡ true
+all_zeros zero = refl
+all_zeros (suc n) = all_zeros n
+
+pub groups-typed : (gs : List Group) → length gs ≤ 8 → typed_slot (group_slot gs) ≡ true
+groups-typed gs few =
+    and-join
+    (eq-eqb (length (group_slot gs)) 12
+    (omega (arith, length-append (map group_number gs) (replicate (12 - length gs) 0), length-map gs group_number, length-replicate {A = ℕ} (12 - length gs) 0)))
+    (all_append (bits 32) (map group_number gs) (replicate (12 - length gs) 0) (all_numbers gs) (all_zeros (12 - length gs)))

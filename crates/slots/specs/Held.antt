@@ -5,13 +5,12 @@
 -- values, and no call has to look for them beyond what it uses.
 -- Slot 0: 1 where a tower stands, legs, number of sections, number of items, 1 where a wind stands, direction,
 -- ice class, structure factor. Slots 1 to 64: two for each section. Slots 65 to 128: the items in hanging order.
-use Rattle.std.specs.Prelude.{ℕ, ◌%◌, ◌/◌, ◌+◌, ◌*◌, ◌≤◌, ◌<◌, ◌≡◌, ◌≢◌, Bool, cond, ◌&&◌, List, [], ◌∷◌, map, eqb, leb, length, take, drop, get_or, replicate}
+use Rattle.std.specs.Prelude.{ℕ, ◌%◌, ◌/◌, ◌+◌, ◌-◌, ◌*◌, ◌≤◌, ◌<◌, ◌≡◌, ◌≢◌, Bool, cond, ◌&&◌, List, [], ◌∷◌, ◌++◌, map, eqb, leb, length, take, drop, get_or, replicate, min}
 use Rattle.std.proofs.Math.Option.{none, some}
 use Rattle.units.specs.declared.Length.{Length}
 use Rattle.model.specs.declared.Item.{Item}
 use Rattle.model.specs.declared.Group.{Group}
 use Rattle.model.specs.declared.Member.TheVariants.{Flat}
-use Rattle.model.specs.declared.Section as stored
 use Rattle.model.specs.Lists.{list_to}
 use Rattle.model.specs.Ranges.{within, ice_classes, structure_factor, pressures}
 use Rattle.model.specs.Areas.{size_of, thickness, gross, solid_of}
@@ -34,14 +33,11 @@ unfoldable pub is_standing : Slots → Bool
 is_standing l = eqb (cell l 0 0) 1
 
 -- a count, and no more than the slots
-unfoldable pub at_most : ℕ → ℕ → ℕ
-at_most most n = cond (leb n most) n most
-
 unfoldable pub count_in : Slots → ℕ
-count_in l = at_most 32 (cell l 0 2)
+count_in l = min (cell l 0 2) 32
 
 unfoldable pub held_in : Slots → ℕ
-held_in l = at_most 64 (cell l 0 3)
+held_in l = min (cell l 0 3) 64
 
 -- an item's number, which its slot tells whatever its other cells
 abbrev pub number_in : List ℕ → ℕ
@@ -90,18 +86,6 @@ items_in l = items_to l (held_in l)
 abbrev pub group_in : ℕ → Group
 group_in x = record { member = member_of (x % 2) (record { 0 = x / 2 % 1024 }); length = record { 0 = x / 2048 } }
 
-abbrev pub groups_in : List ℕ → List Group
-groups_in b =
-    group_in (get_or b 0 0)
-    ∷ group_in (get_or b 1 0)
-    ∷ group_in (get_or b 2 0)
-    ∷ group_in (get_or b 3 0)
-    ∷ group_in (get_or b 4 0)
-    ∷ group_in (get_or b 5 0)
-    ∷ group_in (get_or b 6 0)
-    ∷ group_in (get_or b 7 0)
-    ∷ []
-
 abbrev pub packed : Group → ℕ
 packed g = kind_of g.member + 2 * (size_of g.member).0 + 2048 * g.length.0
 
@@ -115,7 +99,7 @@ section_in a b =
       width = record { 0 = get_or a 0 0 };
       height = record { 0 = get_or a 1 0 };
       allowance = record { 0 = get_or a 2 0 };
-      groups = list_to (λ (j : ℕ). group_in (get_or b j 0)) (at_most 8 (get_or a 4 0));
+      groups = list_to (λ (j : ℕ). group_in (get_or b j 0)) (min (get_or a 4 0) 8);
     }
 
 abbrev pub least_section : Section
@@ -134,30 +118,12 @@ stands_under t s = section_fits s && leb (solid_of t s.groups).0 (gross s).0
 unfoldable pub section_of : Length → List ℕ → List ℕ → Section
 section_of t a b = cond (stands_under t (section_in a b)) (section_in a b) least_section
 
-abbrev pub no_group : Group
-no_group = record { member = Flat (record { 0 = 0 }); length = record { 0 = 0 } }
+-- a section's two slots
+abbrev pub field_slot : Section → ℕ → List ℕ
+field_slot s q = s.width.0 ∷ s.height.0 ∷ s.allowance.0 ∷ q ∷ length s.groups ∷ replicate 7 0
 
-abbrev pub field_slot : stored.Section → ℕ → List ℕ
-field_slot s q = s.width.0 ∷ s.height.0 ∷ s.allowance.0 ∷ q ∷ s.count ∷ 0 ∷ 0 ∷ 0 ∷ 0 ∷ 0 ∷ 0 ∷ 0 ∷ []
-
-abbrev pub group_at : stored.Section → ℕ → ℕ
-group_at s j = group_number (get_or s.groups j no_group)
-
-abbrev pub group_slot : stored.Section → List ℕ
-group_slot s =
-    group_at s 0
-    ∷ group_at s 1
-    ∷ group_at s 2
-    ∷ group_at s 3
-    ∷ group_at s 4
-    ∷ group_at s 5
-    ∷ group_at s 6
-    ∷ group_at s 7
-    ∷ 0
-    ∷ 0
-    ∷ 0
-    ∷ 0
-    ∷ []
+abbrev pub group_slot : List Group → List ℕ
+group_slot gs = map group_number gs ++ replicate (12 - length gs) 0
 
 -- the slots of section i, as they are, and what they stand for under ice of thickness t
 abbrev pub section_as : Slots → ℕ → Section

@@ -1,66 +1,62 @@
 // Slot 0: what stands, and the counts.
-ghost use Rattle.std.specs.Prelude.{◌≡◌, ◌≤◌, ◌<◌, length};
+ghost use Rattle.std.specs.Prelude.{◌≡◌, ◌≤◌};
 ghost use Rattle.model.specs.File.{legs_of};
 ghost use Rattle.slots.specs.Held.{is_standing, count_in, held_in, cell, NextCell};
 
-use crate::Slot;
+use crate::{Slot, State};
 use model::Legs;
-use model::numbers::legs_of;
+use model::ranges::{ITEM_COUNT, SECTION_COUNT};
 
-pub fn is_standing(s: &[Slot]) -> bool
-    requires { length s.now ≡ 129 }
+// Its cells.
+pub const STANDING: usize = 0;
+
+pub const LEGS: usize = 1;
+
+pub const COUNT: usize = 2;
+
+pub const HELD: usize = 3;
+
+pub const WINDY: usize = 4;
+
+pub const DIRECTION: usize = 5;
+
+pub const ICE: usize = 6;
+
+pub const FACTOR: usize = 7;
+
+#[tactic(auto, unfolding(crate::specs::Held::is_standing))]
+pub fn is_standing(s: &State) -> bool
     ensures { result ≡ is_standing s.now }
 {
-    let x = s[0][0];
-    x == 1
+    s[0][STANDING] == 1
 }
 
-pub fn legs_in(s: &[Slot]) -> Legs
-    requires { length s.now ≡ 129 }
+pub fn legs_in(s: &State) -> Legs
     ensures { result ≡ legs_of (cell s.now 0 1) }
 {
-    let n = s[0][1];
-    legs_of(n)
+    Legs::from(s[0][LEGS])
 }
 
 // The number of sections.
-pub fn count_in(s: &[Slot]) -> usize
-    requires { length s.now ≡ 129 }
+#[tactic(auto, unfolding(crate::specs::Held::count_in))]
+pub fn count_in(s: &State) -> usize
     ensures { (result ≡ count_in s.now) × (result ≤ 32) }
 {
-    let n = s[0][2];
-    if 32 < n {
-        return 32;
-    }
-    n as usize
+    s[0][COUNT].min(SECTION_COUNT.high) as usize
 }
 
 // The number of items.
-pub fn held_in(s: &[Slot]) -> usize
-    requires { length s.now ≡ 129 }
+#[tactic(auto, unfolding(crate::specs::Held::held_in))]
+pub fn held_in(s: &State) -> usize
     ensures { (result ≡ held_in s.now) × (result ≤ 64) }
 {
-    let n = s[0][3];
-    if 64 < n {
-        return 64;
-    }
-    n as usize
+    s[0][HELD].min(ITEM_COUNT.high) as usize
 }
 
 // Slot 0 with another number of items.
-pub fn with_held(head: Slot, n: usize) -> Slot
-    requires { n ≤ 64 }
-    ensures { NextCell head 3 n result }
+pub fn set_held(head: &mut Slot, held: usize)
+    requires { held ≤ 64 }
+    ensures { NextCell head.old 3 held head.new }
 {
-    with_cell(head, 3, n as u32)
-}
-
-// A slot with another number in one cell.
-pub fn with_cell(slot: Slot, j: usize, x: u32) -> Slot
-    requires { j < 12 }
-    ensures { NextCell slot j x result }
-{
-    let mut next = slot;
-    next[j] = x;
-    next
+    head[HELD] = held as u32;
 }

@@ -1,41 +1,48 @@
 // Items in slots.
-ghost use Rattle.std.specs.Prelude.{◌≡◌, true, ◌+◌, ◌≤◌, ◌<◌, length};
+ghost use Rattle.std.specs.Prelude.{◌≡◌, true, ◌≤◌, ◌<◌, ◌+◌, length, map, take, drop, ◌++◌};
 ghost use Rattle.model.specs.File.{fields_in_range};
 ghost use Rattle.areas.specs.Sums.{ItemSums};
-ghost use Rattle.slots.specs.Held.{slot, number_in, item_in, no_force, item_of, items_to, slot_of};
+ghost use Rattle.slots.specs.Held.{held_in, number_in, item_in, no_force, item_of, slot_of};
 
-use crate::Slot;
+use crate::head::held_in;
+use crate::{Slot, State};
+use areas::ice::Ice;
 use areas::items::item_part;
 use areas::ranges::fields_in_range;
 use model::Item;
 use units::Length;
 
-// The number of the item at this place.
-pub fn number_at(s: &[Slot], i: usize) -> u16
-    requires { (length s.now ≡ 129) × (i < 64) }
-    ensures { result ≡ number_in (slot s.now (65 + i)) }
+// The slot of the first item.
+pub const ITEMS: usize = 65;
+
+// The slots of the items, in hanging order.
+pub fn item_slots(s: &State) -> &[Slot]
+    ensures slots { result.now ≡ take (held_in s.now) (drop 65 s.now) }
+    ensures count { length result.now ≡ held_in s.now }
+    ensures few { length result.now ≤ 64 }
 {
-    let at = 65 + i;
-    let x = s[at][0] % 65_536;
-    x as u16
+    &s[ITEMS..ITEMS + held_in(s)]
 }
 
-fn item_in(r: Slot) -> Item
-    ensures { result ≡ item_in r }
+// The number of the item in a slot, whatever the other cells.
+pub fn number_in(slot: &Slot) -> u16
+    ensures { result ≡ number_in slot.now }
 {
-    let number = r[0] % 65_536;
-    let section = r[1] % 256;
-    let bare = r[4] % 65_536;
-    let iced = r[5] % 65_536;
-    let position = r[6] % 65_536;
+    (slot[0] % 65_536) as u16
+}
+
+fn item_in(slot: &Slot) -> Item
+    ensures { result ≡ item_in slot.now }
+{
+    let [number, section, width, length, bare, iced, position, ..] = *slot;
     Item {
-        number: number as u16,
-        section: section as u8,
-        width: Length(r[2]),
-        length: Length(r[3]),
-        bare: bare as u16,
-        iced: iced as u16,
-        position: position as u16,
+        number: (number % 65_536) as u16,
+        section: (section % 256) as u8,
+        width: Length(width),
+        length: Length(length),
+        bare: (bare % 65_536) as u16,
+        iced: (iced % 65_536) as u16,
+        position: (position % 65_536) as u16,
     }
 }
 
@@ -43,38 +50,30 @@ fn no_force(it: Item) -> Item
     ensures { result ≡ no_force it }
 {
     Item {
-        number: it.number,
-        section: it.section,
         width: Length(1),
         length: Length(1),
         bare: 0,
         iced: 0,
         position: 0,
+        ..it
     }
 }
 
 // The item of a slot, or one of no force where its fields are out of range.
-pub fn item_of(r: Slot) -> Item
-    ensures { (result ≡ item_of r) × (fields_in_range result ≡ true) }
+#[tactic(auto, unfolding(crate::specs::Held::item_of))]
+pub fn item_of(slot: &Slot) -> Item
+    ensures { (result ≡ item_of slot.now) × (fields_in_range result ≡ true) }
 {
-    let it = item_in(r);
+    let it = item_in(slot);
     if fields_in_range(it) {
-        return it;
+        it
+    } else {
+        no_force(it)
     }
-    no_force(it)
-}
-
-// The item at this place.
-pub fn item_at(s: &[Slot], i: usize) -> Item
-    requires { (length s.now ≡ 129) × (i < 64) }
-    ensures { (result ≡ item_of (slot s.now (65 + i))) × (fields_in_range result ≡ true) }
-{
-    let at = 65 + i;
-    let slot = s[at];
-    item_of(slot)
 }
 
 // The slot of an item that is in its ranges: it stands for the item.
+#[tactic(auto, using(crate::proofs::Codec::item_back))]
 pub fn item_slot(it: Item) -> Slot
     requires { fields_in_range it ≡ true }
     ensures { (result ≡ slot_of it) × (item_of result ≡ it) }
@@ -95,18 +94,17 @@ pub fn item_slot(it: Item) -> Slot
     ]
 }
 
-// Of each of 32 sections, the sum over the items that hang on it, under ice of thickness t.
-pub fn item_sums(s: &[Slot], t: Length, held: usize) -> [u64; 32]
-    requires { (length s.now ≡ 129) × (held ≤ 64) × (t.0 ≤ 50) }
-    ensures { ItemSums t (items_to s.now held) result }
+// Of each of 32 sections, the sum over the items in these slots that hang on it.
+pub fn item_sums(slots: &[Slot], ice: Ice) -> [u64; 32]
+    requires { length slots.now ≤ 64 }
+    ensures { ItemSums ice.thickness (map item_of slots.now) result }
 {
     let mut sums = [0u64; 32];
-    for i in 0usize..held {
-        let it = item_at(s, i);
-        let hung = it.section as usize;
-        if hung < 32 {
-            let so_far = sums[hung];
-            sums[hung] = so_far + item_part(t, it);
+    for slot in slots {
+        let item = item_of(slot);
+        let section = usize::from(item.section);
+        if section < 32 {
+            sums[section] += item_part(ice, item);
         }
     }
     sums

@@ -1,98 +1,74 @@
 // The wind: its numbers in slot 0, and a pressure beside each section.
-ghost use Rattle.std.specs.Prelude.{◌≡◌, ◌&&◌, ◌≤◌, ◌<◌, length};
+ghost use Rattle.std.specs.Prelude.{◌≡◌, ◌&&◌, ◌≤◌, ◌<◌, IfSome, is_some};
 ghost use Rattle.model.specs.Machine as machine;
 ghost use Rattle.model.specs.Ranges as ranges;
 ghost use Rattle.slots.specs.Held.{cell, ground_of, is_windy, ice_on};
 ghost use Rattle.slots.specs.Held as held;
 
-use crate::Slot;
-use crate::head::legs_in;
-use areas::section::thickness;
+use crate::State;
+use crate::head::{DIRECTION, FACTOR, ICE, WINDY, legs_in};
+use crate::sections::{PRESSURE, SECTIONS};
+use areas::ice::Ice;
 use model::Legs;
-use model::ranges::{DIRECTIONS, ICE_CLASSES, PRESSURES, STRUCTURE_FACTOR, within};
-use units::Length;
+use model::ranges::{DIRECTIONS, ICE_CLASSES, PRESSURES, STRUCTURE_FACTOR};
 
 // With three legs only even k.
 pub fn direction_fits(legs: Legs, k: u32) -> bool
     ensures { result ≡ machine.direction_fits legs k }
 {
-    match legs {
-        Legs::Three => within(DIRECTIONS, k) && k % 2 == 0,
-        Legs::Four => within(DIRECTIONS, k),
-    }
-}
-
-fn numbers_fit(legs: Legs, k: u32, ice: u32, factor: u32) -> bool
-    ensures { result ≡ machine.direction_fits legs k && (ranges.within ranges.ice_classes ice && ranges.within ranges.structure_factor factor) }
-{
-    if !direction_fits(legs, k) {
-        return false;
-    }
-    if !within(ICE_CLASSES, ice) {
-        return false;
-    }
-    within(STRUCTURE_FACTOR, factor)
-}
-
-pub fn has_wind(s: &[Slot]) -> bool
-    requires { length s.now ≡ 129 }
-    ensures { result ≡ is_windy (ground_of s.now) }
-{
-    let windy = s[0][4];
-    if windy != 1 {
-        return false;
-    }
-    let legs = legs_in(s);
-    let k = s[0][5];
-    let ice = s[0][6];
-    let factor = s[0][7];
-    numbers_fit(legs, k, ice, factor)
-}
-
-// The ice that the sections stand under.
-pub fn ice_on(s: &[Slot]) -> Length
-    requires { length s.now ≡ 129 }
-    ensures { (result ≡ ice_on (ground_of s.now)) × (result.0 ≤ 50) }
-{
-    if !has_wind(s) {
-        return Length(0);
-    }
-    let ice = s[0][6];
-    thickness(ice)
+    DIRECTIONS.contains(k)
+        && match legs {
+            Legs::Three => k % 2 == 0,
+            Legs::Four => true,
+        }
 }
 
 // Direction, ice class and structure factor.
-#[derive(Clone, Copy)]
+#[derive(Clone, Copy, Debug, PartialEq, Eq, Hash)]
 pub struct WindNumbers {
     pub direction: u32,
     pub ice: u32,
     pub factor: u32,
 }
 
-// As they stand in slot 0.
-pub fn wind_numbers(s: &[Slot]) -> WindNumbers
-    requires { length s.now ≡ 129 }
-    ensures { (result.direction ≡ cell s.now 0 5) × (result.ice ≡ cell s.now 0 6) × (result.factor ≡ cell s.now 0 7) }
+fn numbers_fit(legs: Legs, w: WindNumbers) -> bool
+    ensures { result ≡ machine.direction_fits legs w.direction && (ranges.within ranges.ice_classes w.ice && ranges.within ranges.structure_factor w.factor) }
 {
-    let direction = s[0][5];
-    let ice = s[0][6];
-    let factor = s[0][7];
-    WindNumbers {
-        direction,
-        ice,
-        factor,
-    }
+    direction_fits(legs, w.direction)
+        && ICE_CLASSES.contains(w.ice)
+        && STRUCTURE_FACTOR.contains(w.factor)
+}
+
+// Those of the wind that stands, where one does.
+#[tactic(auto, unfolding(crate::specs::Held::ground_of))]
+pub fn wind_numbers(s: &State) -> Option<WindNumbers>
+    ensures stands { is_some result ≡ is_windy (ground_of s.now) }
+    ensures numbers { IfSome result (λ w. (w.direction ≡ cell s.now 0 5) × (w.ice ≡ cell s.now 0 6) × (w.factor ≡ cell s.now 0 7)) }
+    ensures in_range { IfSome result (λ w. (w.ice ≤ 5) × (w.factor ≤ 2000)) }
+{
+    let w = WindNumbers {
+        direction: s[0][DIRECTION],
+        ice: s[0][ICE],
+        factor: s[0][FACTOR],
+    };
+    let stands = s[0][WINDY] == 1 && numbers_fit(legs_in(s), w);
+    stands.then_some(w)
+}
+
+// The ice that the sections stand under.
+#[tactic(auto, unfolding(crate::specs::Held::ground_of, crate::specs::Held::ice_on))]
+pub fn ice_on(s: &State) -> Ice
+    ensures { result.thickness ≡ ice_on (ground_of s.now) }
+{
+    Ice::of_class(wind_numbers(s).map_or(0, |w| w.ice))
 }
 
 // The pressure on section i.
-pub fn pressure_at(s: &[Slot], i: usize) -> u16
-    requires { (length s.now ≡ 129) × (i < 32) }
+#[tactic(auto, unfolding(crate::specs::Held::pressure_of))]
+pub fn pressure_at(s: &State, i: usize) -> u16
+    requires { i < 32 }
     ensures { (result ≡ held.pressure_at s.now i) × (result ≤ 5000) }
 {
-    let at = 1 + 2 * i;
-    let q = s[at][3];
-    if !within(PRESSURES, q) {
-        return 0;
-    }
-    q as u16
+    let q = s[SECTIONS + 2 * i][PRESSURE];
+    if PRESSURES.contains(q) { q as u16 } else { 0 }
 }

@@ -1,10 +1,11 @@
-use Rattle.std.proofs.Common.{refl}
-use borrow.Author.Tests.{le-leb}
-use Rattle.exact.proofs.Bools.{and-join}
-use Rattle.areas.specs.Fits.{fits_under}
-use Rattle.slots.proofs.Codec.{least-stands}
+use Rattle.std.proofs.Common.{◌≡◌, refl, ap, ◌∙◌}
+use Rattle.model.specs.Tower.{section_of}
+use Rattle.slots.specs.Held.{stands_under, least_section}
+use Rattle.slots.proofs.Codec.{fits-stands, least-stands}
 use Rattle.slots.proofs.sections.least.Goals as goal
 
 pub returns : goal.returns
-unfolding fits_under
-returns c = (refl, λ t thin. and-join (le-leb t.0 50 thin) (and-join refl (least-stands t thin)))
+returns c =
+    let e : section_of (record { width = record { 0 = 100 }; height = record { 0 = 100 }; allowance = record { 0 = 0 }; groups = c.push.new.self }) ≡ least_section =
+    rw (c.push.ensures.items, c.new-groups.ensures) refl in
+    (e, λ t thin. fits-stands t _ thin ∙ ap (stands_under t) e ∙ least-stands t thin)
