@@ -1,11 +1,14 @@
 -- What is printed reads back.
-use Rattle.std.proofs.Common.{◌≡◌, ℕ, zero, suc, ◌+◌, ◌-◌, ◌*◌, ◌/◌, ◌%◌, ◌^◌, ◌<◌, ◌≤◌, Bool, true, false, ltb, List, [], ◌∷◌, ◌++◌, length, get_or, refl, append_assoc, append-nil, arith, length-append, ltb-false, ltb-true, le-ltb, lt-ltb, ne_eqb, le-leb}
-use lib.ListN.{get_or-append}
-use lib.Seq.{get_or-append_seam}
-use Rattle.lines.specs.Text.{decimal_by, decimal, spaced}
+use Rattle.std.proofs.Common.{◌≡◌, ℕ, zero, suc, ◌+◌, ◌-◌, ◌*◌, ◌/◌, ◌%◌, ◌^◌, ◌<◌, ◌≤◌, true, List, [], ◌∷◌, ◌++◌, length, get_or, Some, Ok, refl, append_assoc, append-nil, arith, length-append, le-ltb, lt-ltb, ne_eqb, le-leb}
+use Rattle.std.specs.Prelude.{decimal}
+use Rattle.std.proofs.Math.ListN.{get_or-append}
+use Rattle.std.proofs.Math.Seq.{get_or-append_seam}
+use Rattle.std.proofs.lemmas.Bool.Decides.{nat_tests}
+use Rattle.std.proofs.lemmas.Fmt.{decimal_by_steps}
+use Rattle.lines.specs.Text.{spaced}
 use Rattle.lines.specs.Numbers.{is_digit, Reading, between, inside, read_byte, read_to}
-use Rattle.lines.specs.Hex.{hex_digit, hex_value, hex_text, all_hex, pairs, whole, bytes_in}
-use Rattle.lines.proofs.Hexes.{value-decimal, value-lower, hex-length}
+use Rattle.lines.specs.Hex.{hex_digit, hex_value, pair_value, hex_text, pairs, bytes_in}
+use Rattle.lines.proofs.Hexes.{hex-length}
 
 -- a whole text
 abbrev read_all : ℕ → List ℕ → Reading
@@ -39,25 +42,10 @@ module _ (room : ℕ) where
         let e : n / 10 * 10 + (48 + n % 10 - 48) ≡ n = omega arith in
         rw (read_next s (48 + n % 10), r, digit-code (n % 10) (omega arith), e, lt-ltb _ _ h)
 
-    by_size : (s : List ℕ) (f n : ℕ) → n < 10 ^ 19 → (10 ≤ n → read_all room (s ++ decimal_by f (n / 10)) ≡ inside vs (n / 10))
-        → read_all room s ≡ between vs → read_all room (s ++ decimal_by (suc f) n) ≡ inside vs n
-    unfolding decimal_by
-    by_size s f n k i r = go (ltb n 10) refl
-      where
-        go : (t : Bool) → ltb n 10 ≡ t → read_all room (s ++ decimal_by (suc f) n) ≡ inside vs n
-        go true e = rw e (first-digit s n (ltb-true n 10 e) r)
-        go false e = rw (e, ← append_assoc) (next-digit (s ++ decimal_by f (n / 10)) n k (i (ltb-false n 10 e)))
-
-    digits-back : (s : List ℕ) (f n : ℕ) → n ≤ f → n < 10 ^ 19 → read_all room s ≡ between vs
-        → read_all room (s ++ decimal_by f n) ≡ inside vs n
-    unfolding decimal_by
-    digits-back s zero n h k r = first-digit s n (omega arith) r
-    digits-back s (suc f) n h k r =
-        by_size s f n k (λ g. digits-back s f (n / 10) (omega arith) (omega arith) r) r
-
     number-after : (s : List ℕ) (n : ℕ) → n < 10 ^ 19 → read_all room s ≡ between vs → read_all room (s ++ decimal n) ≡ inside vs n
-    unfolding decimal
-    number-after s n = digits-back s n n (omega arith)
+    number-after s n h r =
+        decimal_by_steps (λ m ds. m < 10 ^ 19 → read_all room (s ++ ds) ≡ inside vs m) (λ m small k. first-digit s m small r)
+        (λ m ds large front k. rw (← append_assoc) (next-digit (s ++ ds) m k (front (omega arith)))) n (omega arith) h
 
     space-after : (s : List ℕ) (n : ℕ) → read_all room s ≡ inside vs n → read_all room (s ++ (32 ∷ [])) ≡ between (vs ++ (n ∷ []))
     space-after s n r = rw (read_next s 32, r)
@@ -87,45 +75,22 @@ module _ (room : ℕ) where
   numbers-back ns n h k g = number-after ns g (spaced ns) n k (spaced-back [] [] ns h (omega arith) refl)
 
 -- a digit's value
-digit-back : (d : ℕ) → d < 16 → hex_value (hex_digit d) ≡ d
-digit-back d h = go (ltb d 10) refl
-  where
-    go : (t : Bool) → ltb d 10 ≡ t → hex_value (hex_digit d) ≡ d
-    go true e =
-        let g : d < 10 = ltb-true d 10 e in
-        let k : 48 + d - 48 ≡ d = omega arith in
-        rw (e, ← value-decimal (48 + d) (omega arith) (omega arith), k)
-    go false e =
-        let g : 10 ≤ d = ltb-false d 10 e in
-        let k : 87 + d - 87 ≡ d = omega arith in
-        rw (e, ← value-lower (87 + d) (omega arith) (omega arith), k)
+digit-back : (d : ℕ) → d < 16 → hex_value (hex_digit d) ≡ Some d
+digit-back d h = grind (arith, nat_tests)
 
-module _ (b : ℕ) (h : b < 256) where
-  high-back : hex_value (hex_digit (b / 16)) ≡ b / 16
-  high-back = digit-back (b / 16) (omega arith)
+pair_back : (b : ℕ) → b < 256 → pair_value (hex_digit (b / 16)) (hex_digit (b % 16)) ≡ Some b
+pair_back b h =
+    let e : b / 16 * 16 + b % 16 ≡ b = omega arith in
+    rw (digit-back (b / 16) (omega arith), digit-back (b % 16) (omega arith), e)
 
-  low-back : hex_value (hex_digit (b % 16)) ≡ b % 16
-  low-back = digit-back (b % 16) (omega arith)
-
-all_back : (bs : List ℕ) → ((i : ℕ) → get_or bs i 0 < 256) → all_hex (hex_text bs) ≡ true
-unfolding hex_text all_hex
-all_back [] h = refl
-all_back (b ∷ bs) h =
-    let g : b < 256 = h 0 in
-    rw (high-back b g, low-back b g, lt-ltb (b / 16) 16 (omega arith), lt-ltb (b % 16) 16 (omega arith), all_back bs (λ i. h (suc i)))
-
-pairs-back : (bs : List ℕ) → ((i : ℕ) → get_or bs i 0 < 256) → pairs (hex_text bs) ≡ bs
+pairs-back : (bs : List ℕ) → ((i : ℕ) → get_or bs i 0 < 256) → pairs (hex_text bs) ≡ Some bs
 unfolding hex_text pairs
 pairs-back [] h = refl
-pairs-back (b ∷ bs) h =
-    let g : b < 256 = h 0 in
-    let e : b / 16 * 16 + b % 16 ≡ b = omega arith in
-    rw (high-back b g, low-back b g, e, pairs-back bs (λ i. h (suc i)))
+pairs-back (b ∷ bs) h = rw (pair_back b (h 0), pairs-back bs (λ i. h (suc i)))
 
 -- bytes
-pub bytes_back : (room : ℕ) (bs : List ℕ) → ((i : ℕ) → get_or bs i 0 < 256) → length bs ≤ room → bytes_in room (hex_text bs) ≡ whole bs
-unfolding bytes_in
+pub bytes_back : (room : ℕ) (bs : List ℕ) → ((i : ℕ) → get_or bs i 0 < 256) → length bs ≤ room → bytes_in room (hex_text bs) ≡ Ok bs
 bytes_back room bs h k =
     let e : length (hex_text bs) % 2 ≡ 1 → ⊥ = λ g. omega (arith, hex-length bs) in
     let l : length (hex_text bs) / 2 ≤ room = omega (arith, hex-length bs) in
-    rw (ne_eqb _ _ e, le-ltb _ _ l, all_back bs h, pairs-back bs h)
+    rw (ne_eqb _ _ e, le-ltb _ _ l, pairs-back bs h)

@@ -1,57 +1,49 @@
 -- Bytes in hexadecimal: two digits a byte, the high one first.
-use Rattle.std.specs.Prelude.{◌≡◌, ℕ, ◌+◌, ◌-◌, ◌*◌, ◌/◌, ◌%◌, Bool, true, cond, ◌&&◌, List, [], ◌∷◌, length, take, ◌==◌, nat_le, nat_lt}
-use Rattle.lines.specs.declared.HexCount.{HexCount}
-use Rattle.lines.specs.declared.HexCount.TheVariants as count
+use Rattle.std.specs.Prelude.{ℕ, ◌+◌, ◌-◌, ◌*◌, ◌/◌, ◌%◌, ◌&&◌, if◌then◌else◌, List, [], ◌∷◌, length, ◌==◌, nat_le, nat_lt, Option, Some, None, Result, Err}
+use Rattle.std.specs.Option.{ok_or}
+use Rattle.lines.specs.declared.hex.HexError.{HexError}
+use Rattle.lines.specs.declared.hex.HexError.TheVariants.{Bad, Many}
 
 -- the digit of a value below 16: `0` to `9`, then `a` to `f`
 abbrev pub hex_digit : ℕ → ℕ
-hex_digit d = cond (nat_lt d 10) (48 + d) (87 + d)
+hex_digit d = if nat_lt d 10 then 48 + d else 87 + d
 
 unfoldable pub hex_text : List ℕ → List ℕ
 hex_text [] = []
 hex_text (b ∷ bs) = hex_digit (b / 16) ∷ hex_digit (b % 16) ∷ hex_text bs
 
--- the value of a digit, where `a` to `f` may be `A` to `F`, and 16 for a byte that is no digit
-abbrev pub hex_value : ℕ → ℕ
+-- the value of a digit, where `a` to `f` may be `A` to `F`
+abbrev pub hex_value : ℕ → Option ℕ
 hex_value b =
-    cond (nat_le 48 b && nat_le b 57) (b - 48)
-    (cond (nat_le 65 b && nat_le b 70) (b - 55)
-    (cond (nat_le 97 b && nat_le b 102) (b - 87) 16))
+    if nat_le 48 b && nat_le b 57 then Some (b - 48)
+    else if nat_le 65 b && nat_le b 70 then Some (b - 55)
+    else if nat_le 97 b && nat_le b 102 then Some (b - 87)
+    else None
 
-unfoldable pub all_hex : List ℕ → Bool
-all_hex [] = true
-all_hex (b ∷ s) = nat_lt (hex_value b) 16 && all_hex s
+-- the byte of two digits
+abbrev pub byte_of : Option ℕ → Option ℕ → Option ℕ
+byte_of (Some high) (Some low) = Some (high * 16 + low)
+byte_of (Some high) None = None
+byte_of None low = None
 
--- the bytes that pairs of digits are
-unfoldable pub pairs : List ℕ → List ℕ
-pairs [] = []
-pairs (h ∷ []) = []
-pairs (h ∷ (l ∷ s)) = (hex_value h * 16 + hex_value l) ∷ pairs s
+abbrev pub pair_value : ℕ → ℕ → Option ℕ
+pair_value high low = byte_of (hex_value high) (hex_value low)
 
--- the bytes of a text, or what is wrong with it: a digit has no second one or a byte is no digit, or there is no room for so many bytes
-pub data HexReading : Type 0 where
-  whole : List ℕ → HexReading
-  bad : HexReading
-  many : HexReading
+-- the bytes of pairs of digits, if all are digits
+abbrev pub with_first : Option ℕ → Option (List ℕ) → Option (List ℕ)
+with_first (Some b) (Some bs) = Some (b ∷ bs)
+with_first (Some b) None = None
+with_first None bs = None
 
-unfoldable pub bytes_in : ℕ → List ℕ → HexReading
+unfoldable pub pairs : List ℕ → Option (List ℕ)
+pairs [] = Some []
+pairs (digit ∷ []) = None
+pairs (high ∷ (low ∷ s)) = with_first (pair_value high low) (pairs s)
+
+-- the bytes of a text, or what is wrong with it: there is no room for so many bytes, a digit has no second one or a byte
+-- is no digit
+abbrev pub bytes_in : ℕ → List ℕ → Result (List ℕ) HexError
 bytes_in room s =
-    cond (length s % 2 == 1) bad
-    (cond (nat_lt room (length s / 2)) many
-    (cond (all_hex s) (whole (pairs s)) bad))
-
--- the answer, and the bytes
-abbrev pub hex_count_of : HexReading → HexCount
-hex_count_of (whole bs) = count.Of (length bs)
-hex_count_of bad = count.Bad
-hex_count_of many = count.Many
-
-abbrev pub hex_bytes_of : HexReading → List ℕ
-hex_bytes_of (whole bs) = bs
-hex_bytes_of bad = []
-hex_bytes_of many = []
-
--- the answer r to a text, and its bytes at the start of out
-pub record HexCounted (room : ℕ) (text out : List ℕ) (r : HexCount) : Type 0 where
-  pub answer : r ≡ hex_count_of (bytes_in room text)
-  pub bytes : take (length (hex_bytes_of (bytes_in room text))) out ≡ hex_bytes_of (bytes_in room text)
+    if length s % 2 == 1 then Err Bad
+    else if nat_lt room (length s / 2) then Err Many
+    else ok_or (pairs s) Bad

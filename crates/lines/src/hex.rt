@@ -1,65 +1,54 @@
 // Bytes in hexadecimal, two digits a byte.
-ghost use Rattle.std.specs.Prelude.{◌≡◌, ◌<◌, ◌≤◌, length};
-ghost use Rattle.lines.specs.Hex.{hex_digit, hex_value, hex_text, HexCounted};
-ghost use Rattle.lines.specs.Text.{Puts};
+ghost use Rattle.std.specs.Prelude.{◌≡◌, ◌<◌, length, slice_index};
+ghost use Rattle.lines.specs.Copied.{result_copied};
+ghost use Rattle.lines.specs.Hex.{hex_digit, hex_value, pair_value, bytes_in};
 
-use crate::HexCount;
-use crate::text::put;
+// What is wrong with a text: it is none in hexadecimal, or of more bytes than there is room for.
+#[derive(Clone, Copy, Debug, PartialEq, Eq)]
+pub enum HexError {
+    Bad,
+    Many,
+}
 
-// The value of a digit, or 16.
-fn hex_value(b: u8) -> u8
-    ensures { result ≡ hex_value b }
+fn hex_value(digit: u8) -> Option<u8>
+    ensures { result ≡ hex_value digit }
 {
-    match b {
-        b'0'..=b'9' => b - 48,
-        b'A'..=b'F' => b - 55,
-        b'a'..=b'f' => b - 87,
-        _ => 16,
+    match digit {
+        b'0'..=b'9' => Some(digit - b'0'),
+        b'A'..=b'F' => Some(digit - b'A' + 10),
+        b'a'..=b'f' => Some(digit - b'a' + 10),
+        _ => None,
     }
 }
 
-// Puts the bytes of a text at the start of out.
-pub fn read_hex(text: &[u8], out: &mut [u8]) -> HexCount
-    ensures { HexCounted (length out.old) text.now out.new result }
+// The byte of two digits.
+fn pair_value(pair: &[u8]) -> Option<u8>
+    requires { length pair.now ≡ 2 }
+    ensures { result ≡ pair_value (slice_index pair.now 0) (slice_index pair.now 1) }
+{
+    Some(hex_value(pair[0])? * 16 + hex_value(pair[1])?)
+}
+
+// The bytes of a text, which are put at the start of out.
+pub fn read_hex<'a>(text: &[u8], out: &'a mut [u8]) -> Result<&'a [u8], HexError>
+    ensures { result_copied result ≡ bytes_in (length out.old) text.now }
 {
     if text.len() % 2 == 1 {
-        return HexCount::Bad;
+        return Err(HexError::Bad);
     }
     let count = text.len() / 2;
     if out.len() < count {
-        return HexCount::Many;
+        return Err(HexError::Many);
     }
-    for i in 0usize..count {
-        let high = hex_value(text[2 * i]);
-        let low = hex_value(text[2 * i + 1]);
-        if 15 < high {
-            return HexCount::Bad;
-        }
-        if 15 < low {
-            return HexCount::Bad;
-        }
-        out[i] = high * 16 + low;
+    for (i, pair) in text.chunks_exact(2).enumerate() {
+        out[i] = pair_value(pair).ok_or(HexError::Bad)?;
     }
-    HexCount::Of(count)
+    Ok(&out[..count])
 }
 
-fn hex_digit(d: u8) -> u8
-    requires { d < 16 }
-    ensures { result ≡ hex_digit d }
+pub(crate) fn hex_digit(value: u8) -> u8
+    requires { value < 16 }
+    ensures { result ≡ hex_digit value }
 {
-    if d < 10 { 48 + d } else { 87 + d }
-}
-
-// Puts bytes as text at `at`, as far as out reaches, and answers the next place.
-pub fn put_hex(out: &mut [u8], at: usize, bytes: &[u8]) -> usize
-    requires { at ≤ length out.old }
-    ensures { Puts (hex_text bytes.now) out.old at out.new result }
-{
-    let mut p = at;
-    for i in 0usize..bytes.len() {
-        let b = bytes[i];
-        p = put(out, p, hex_digit(b / 16));
-        p = put(out, p, hex_digit(b % 16));
-    }
-    p
+    b"0123456789abcdef"[usize::from(value)]
 }

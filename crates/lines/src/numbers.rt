@@ -1,68 +1,52 @@
 // The numbers of a line.
-ghost use Rattle.std.specs.Prelude.{◌≡◌, ◌-◌, ◌<◌, ◌≤◌, true, length, slice_index};
-ghost use Rattle.lines.specs.Numbers.{is_digit, ReadAt, Counted};
+ghost use Rattle.std.specs.Prelude.{◌≡◌, length};
+ghost use Rattle.lines.specs.Copied.{result_copied};
+ghost use Rattle.lines.specs.Numbers.{numbers_in, digit_value};
 
-use crate::{Count, Number};
-
-fn is_digit(b: u8) -> bool
-    ensures { result ≡ is_digit b }
-{
-    48 <= b && b <= 57
+// What is wrong with a line first: it is no run of numbers with single spaces, one has 10^19 or more, or there is no
+// room for so many.
+#[derive(Clone, Copy, Debug, PartialEq, Eq)]
+pub enum NumbersError {
+    Bad,
+    Large,
+    Many,
 }
 
-fn digit(b: u8) -> u64
-    requires { (48 ≤ b) × (b ≤ 57) }
-    ensures { (result ≡ b - 48) × (result < 10) }
-{
-    (b - 48) as u64
-}
+// From here on a number has 10^19 or more with one digit more.
+const FULL: u64 = 1_000_000_000_000_000_000;
 
-// The number whose digits stand from `at`, where there is one, up to the first byte that is none. From 10^19 on it is too large.
-fn number_at(s: &[u8], at: usize) -> Number
-    requires { (at < length s.now) × (is_digit (slice_index s.now at) ≡ true) }
-    ensures { ReadAt s.now at result }
+fn digit_value(digit: u8) -> Option<u64>
+    ensures { result ≡ digit_value digit }
 {
-    let mut n = digit(s[at]);
-    let mut i = at + 1;
-    while i < s.len() {
-        let b = s[i];
-        if !is_digit(b) {
-            return Number::At(n, i);
-        }
-        if 999_999_999_999_999_999 < n {
-            return Number::Large;
-        }
-        n = n * 10 + digit(b);
-        i += 1;
+    match digit {
+        b'0'..=b'9' => Some(u64::from(digit - b'0')),
+        _ => None,
     }
-    Number::At(n, i)
 }
 
-// Puts the numbers of a line, with one space between two, at the start of out. What is wrong first in the line is answered.
-pub fn numbers_of(line: &[u8], out: &mut [u64]) -> Count
-    ensures { Counted (length out.old) line.now out.new result }
+// The numbers of a line, with one space between two, which are put at the start of out.
+pub fn numbers_of<'a>(line: &[u8], out: &'a mut [u64]) -> Result<&'a [u64], NumbersError>
+    ensures { result_copied result ≡ numbers_in (length out.old) line.now }
 {
-    let mut i: usize = 0;
-    let mut k: usize = 0;
-    while i < line.len() {
-        if !is_digit(line[i]) {
-            return Count::Bad;
-        }
-        if out.len() <= k {
-            return Count::Many;
-        }
-        let Number::At(n, next) = number_at(line, i) else {
-            return Count::Large;
+    let mut count = 0;
+    // The number whose digits are being read.
+    let mut number = None;
+    for b in line {
+        number = match (number, digit_value(*b)) {
+            (None, None) => return Err(NumbersError::Bad),
+            (None, Some(_)) if out.len() <= count => return Err(NumbersError::Many),
+            (None, Some(digit)) => Some(digit),
+            (Some(n), Some(_)) if FULL <= n => return Err(NumbersError::Large),
+            (Some(n), Some(digit)) => Some(n * 10 + digit),
+            (Some(_), None) if *b != b' ' => return Err(NumbersError::Bad),
+            (Some(n), None) => {
+                out[count] = n;
+                count += 1;
+                None
+            }
         };
-        out[k] = n;
-        k += 1;
-        if line.len() <= next {
-            return Count::Of(k);
-        }
-        if line[next] != b' ' {
-            return Count::Bad;
-        }
-        i = next + 1;
     }
-    Count::Bad
+    let last = number.ok_or(NumbersError::Bad)?;
+    out[count] = last;
+    Ok(&out[..=count])
 }

@@ -1,37 +1,63 @@
-// An answer's text. Each function puts something at `at`, as far as out reaches, and answers the next place.
-ghost use Rattle.std.specs.Prelude.{◌≤◌, [], ◌∷◌, ◌++◌, length};
-ghost use Rattle.lines.specs.Text.{Puts, decimal};
+// Text that is put in a slice, as far as that reaches.
+ghost use Rattle.std.specs.Prelude.{◌≡◌, ◌≤◌, [], ◌∷◌, length, decimal};
+ghost use Rattle.lines.specs.Hex.{hex_text};
 
-pub fn put(out: &mut [u8], at: usize, b: u8) -> usize
-    requires { at ≤ length out.old }
-    ensures { Puts (b ∷ []) out.old at out.new result }
-{
-    if at < out.len() {
-        out[at] = b;
-        at + 1
-    } else {
-        at
-    }
+use crate::hex::hex_digit;
+use itoa::Buffer;
+
+// The text so far stands at the start of out.
+#[derive(Drop)]
+pub struct Text<'a> {
+    out: &'a mut [u8],
+    len: usize,
+    ghost fits: { len ≤ length out.now },
 }
 
-pub fn put_bytes(out: &mut [u8], at: usize, text: &[u8]) -> usize
-    requires { at ≤ length out.old }
-    ensures { Puts text.now out.old at out.new result }
-{
-    let mut p = at;
-    for i in 0usize..text.len() {
-        p = put(out, p, text[i]);
-    }
-    p
-}
+impl<'a> Text<'a> {
+    ghost use Rattle.lines.specs.Appends.{Appends};
 
-// Decimal digits, then b.
-pub fn put_number(out: &mut [u8], at: usize, n: u64, b: u8) -> usize
-    requires { at ≤ length out.old }
-    ensures { Puts (decimal n ++ (b ∷ [])) out.old at out.new result }
-{
-    let mut digits = [0u8; 20];
-    let k = io::decimal(n, &mut digits);
-    let end = put_bytes(out, at, &digits[..k]);
-    put(out, end, b)
+    pub fn new(out: &'a mut [u8]) -> Text<'a>
+        ensures same { result.out.ghost_name ≡ out.entry.ghost_name }
+        ensures slice { result.out.now ≡ out.old }
+        ensures empty { result.len ≡ 0 }
+    {
+        Text { out, len: 0 }
+    }
+
+    pub fn len(&self) -> usize
+        ensures { result ≡ self.now.len }
+    {
+        self.len
+    }
+
+    pub fn push(&mut self, b: u8)
+        ensures { Appends (b ∷ []) self.old self.new }
+    {
+        self.push_all(&[b]);
+    }
+
+    pub fn push_all(&mut self, bytes: &[u8])
+        ensures { Appends bytes.now self.old self.new }
+    {
+        let start = self.len;
+        let fit = bytes.len().min(self.out.len() - start);
+        self.out[start..start + fit].copy_from_slice(&bytes[..fit]);
+        self.len += fit;
+    }
+
+    pub fn push_decimal(&mut self, n: u64)
+        ensures { Appends (decimal n) self.old self.new }
+    {
+        self.push_all(Buffer::new().format(n).as_bytes());
+    }
+
+    // Two digits a byte.
+    pub fn push_hex(&mut self, bytes: &[u8])
+        ensures { Appends (hex_text bytes.now) self.old self.new }
+    {
+        for b in bytes {
+            self.push(hex_digit(*b / 16));
+            self.push(hex_digit(*b % 16));
+        }
+    }
 }

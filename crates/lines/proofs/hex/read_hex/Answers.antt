@@ -1,29 +1,35 @@
-use Rattle.std.proofs.Common.{◌≡◌, ◌/◌, length, arith}
-use Rattle.lines.proofs.Pairs.{hex-odd, hex-many, no-high, no-low, paired-more, hex-whole}
+use Rattle.std.proofs.Common.{◌≡◌, sym, ◌∙◌, arith}
+use Rattle.std.proofs.lemmas.Result.{err_from_is_err_and}
+use Rattle.lines.specs.declared.hex.HexError.TheVariants.{Bad}
+use Rattle.lines.proofs.Pairs.{paired_none, no_pair, paired_more, paired_all}
 use Rattle.lines.proofs.hex.read_hex.Goals as goal
 
-pub returns-then-text-eq1 : goal.returns-then-text-eq1
-returns-then-text-eq1 c = hex-odd _ _ _ c.if-text-eq1.true
+pub loop-i-init : goal.loop-i-init
+loop-i-init c =
+    rw (c.into_iter-i-iterator.ensures.into_iter_gives, c.enumerate-i-items.ensures.source, c.enumerate-i-items.ensures.count, c.chunks_exact.ensures.rest)
+    (record { paired = paired_none _ _; two = c.chunks_exact.ensures.size })
 
-pub returns-then-out-count : goal.returns-then-out-count
-returns-then-out-count c = hex-many _ _ _ c.if-text-eq1.false c.if-out-count.true
-
-pub returns-then-high-gt15 : goal.returns-then-high-gt15
-returns-then-high-gt15 c =
-    no-high _ _ _ c.if-text-eq1.false c.if-out-count.false _ _ _ c.loop-i.invariant c.loop-i-test.true c.hex_value-high.ensures
-    c.hex_value-low.ensures c.if-high-gt15.true
-
-pub returns-then-low-gt15 : goal.returns-then-low-gt15
-returns-then-low-gt15 c =
-    no-low _ _ _ c.if-text-eq1.false c.if-out-count.false _ _ _ c.loop-i.invariant c.loop-i-test.true c.hex_value-high.ensures
-    c.hex_value-low.ensures c.if-high-gt15.false c.if-low-gt15.true
+pub returns-in_err-out : goal.returns-in_err-out
+returns-in_err-out c =
+    let p = err_from_is_err_and c.from_residual.result c.from_residual.ensures.1 in
+    let s = c.in-Some.ensures.steps in
+    let bad = rw c.in_err-out.ensures.ok_part at c.in_err-out.ensures.value in
+    let e : c.in_err-out.field-0.0 ≡ Bad = cc in
+    rw (p.1, p.2, e)
+    (no_pair _ _ _ _ _ _ (rw s.0.1.0 at c.loop-i.invariant.paired) (s.0.1.1 ∙ c.loop-i.invariant.two) c.if-text-eq1.false c.if-out-count.false
+    (sym c.pair_value.ensures ∙ c.in_err-out.ensures.ok_part))
 
 pub loop-i-preserved : goal.loop-i-preserved
 loop-i-preserved c =
-    paired-more _ _ _ c.if-text-eq1.false c.if-out-count.false _ _ _ c.loop-i.invariant c.loop-i-test.true c.hex_value-high.ensures
-    c.hex_value-low.ensures c.if-high-gt15.false c.if-low-gt15.false
+    let s = c.in-Some.ensures.steps in
+    rw (s.2, s.1)
+    (record {
+      paired =
+          paired_more _ _ _ _ _ _ (rw s.0.1.0 at c.loop-i.invariant.paired) (s.0.1.1 ∙ c.loop-i.invariant.two) c.if-text-eq1.false c.if-out-count.false _
+          (sym c.pair_value.ensures ∙ c.in_ok-out.ensures.ok_part);
+      two = s.0.0 ∙ c.loop-i.invariant.two;
+    })
 
 pub returns : goal.returns
 returns c =
-    let i : c.loop-i.i ≡ length c.args.text.now / 2 = omega arith in
-    hex-whole _ _ _ c.if-text-eq1.false c.if-out-count.false (rw i at c.loop-i.invariant)
+    paired_all _ _ _ _ _ c.loop-i.invariant.paired (omega (arith, c.in-None.ensures.steps.0.1.0)) c.if-text-eq1.false c.if-out-count.false

@@ -1,34 +1,39 @@
-use Rattle.std.proofs.Common.{◌≡◌, true, false, get_or, refl, arith}
-use Rattle.lines.specs.Numbers.{is_digit}
-use Rattle.lines.proofs.Readings.{taken_none, no_start, no_room, no-fit, last-number, no-space, next-number}
+use Rattle.std.proofs.Common.{arith}
+use Rattle.lines.proofs.Taking.{nothing_taken, no_number, no_room, too_large, no_space, first_taken, digit_taken, number_taken}
 use Rattle.lines.proofs.numbers.numbers_of.Goals as goal
+use Rattle.lines.proofs.numbers.numbers_of.Goals.{in-None-Some-2, in-Some-Some-2, in-Some-None-2}
 
-pub loop-i-init : goal.loop-i-init
-loop-i-init c = taken_none _ _ _ refl
+pub loop-b-init : goal.loop-b-init
+loop-b-init c = nothing_taken _ _
 
-pub returns-then-not-is_digit : goal.returns-then-not-is_digit
-returns-then-not-is_digit c =
-    let byte : is_digit (get_or c.args.line.now c.loop-i.i 0) ≡ false = cc in
-    no_start _ _ _ _ _ c.loop-i.invariant c.loop-i-test.true byte
+pub returns-in-None-None : goal.returns-in-None-None
+returns-in-None-None c =
+    no_number _ _ _ _ _ _ c.loop-b.invariant c.loop-b-test.true _ c.digit_value.ensures c.in-None-None.is-0 c.in-None-None.is-1
 
-pub returns-then-out-k : goal.returns-then-out-k
-returns-then-out-k c =
-    let byte : is_digit (get_or c.args.line.now c.loop-i.i 0) ≡ true = cc in
-    no_room _ _ _ _ _ c.loop-i.invariant c.loop-i-test.true byte (omega arith)
+pub returns-in-None-Some : goal.returns-in-None-Some
+returns-in-None-Some c =
+    no_room _ _ _ _ _ _ c.loop-b.invariant c.loop-b-test.true _ c.digit_value.ensures c.in-None-Some.is-0 c.in-None-Some.is-1 c.if-out-count.true
 
-pub returns-in_default : goal.returns-in_default
-returns-in_default c = no-fit _ _ _ _ _ c.loop-i.invariant (omega arith) c.in_default.ensures
+pub returns-in-Some-Some : goal.returns-in-Some-Some
+returns-in-Some-Some c =
+    too_large _ _ _ _ _ _ c.loop-b.invariant c.loop-b-test.true _ c.digit_value.ensures c.in-Some-Some.is-0 c.in-Some-Some.is-1
+    (omega arith)
 
-pub returns-then-line-next : goal.returns-then-line-next
-returns-then-line-next c = last-number _ _ _ _ _ c.loop-i.invariant (omega arith) _ _ c.in-At.ensures.0 c.if-line-next.true
+pub returns-in-Some-None : goal.returns-in-Some-None
+returns-in-Some-None c =
+    no_space _ _ _ _ _ _ c.loop-b.invariant c.loop-b-test.true _ c.digit_value.ensures c.in-Some-None.is-0 c.in-Some-None.is-1 (λ e. omega arith)
 
-pub returns-then-line-next-ne32 : goal.returns-then-line-next-ne32
-returns-then-line-next-ne32 c =
-    no-space _ _ _ _ _ c.loop-i.invariant (omega arith) _ _ c.in-At.ensures.0 c.if-line-next.false c.in-At.ensures.1
-    c.if-line-next-ne32.true
-
--- the byte after a number is a space, whatever the test on it is called
-pub loop-i-preserved : goal.loop-i-preserved
-loop-i-preserved c =
-    let space : get_or c.args.line.now c.in-At.next 0 ≡ 32 = omega arith in
-    next-number _ _ _ _ _ c.loop-i.invariant (omega arith) _ _ c.in-At.ensures.0 c.if-line-next.false c.in-At.ensures.1 space
+pub loop-b-preserved : goal.loop-b-preserved
+loop-b-preserved c =
+    elim c.match-number.branch [
+      | in-None-Some-2 w ↦
+          rw (w.number-is, w.count-is, w.out-is)
+          (first_taken _ _ _ _ _ _ c.loop-b.invariant c.loop-b-test.true _ c.digit_value.ensures w.in-None-Some.is-0 w.in-None-Some.is-1 w.if-out-count.false)
+      | in-Some-Some-2 w ↦
+          rw (w.number-is, w.count-is, w.out-is)
+          (digit_taken _ _ _ _ _ _ c.loop-b.invariant c.loop-b-test.true _ c.digit_value.ensures w.in-Some-Some.is-0 w.in-Some-Some.is-1
+          (omega arith))
+      | in-Some-None-2 w ↦
+          rw (w.number-is, w.count-is, w.out-is)
+          (number_taken _ _ _ _ _ _ c.loop-b.invariant c.loop-b-test.true _ c.digit_value.ensures w.in-Some-None.is-0 w.in-Some-None.is-1 (omega arith))
+    ]
