@@ -12,17 +12,6 @@ use areas::ice::Ice;
 use model::Legs;
 use model::ranges::{DIRECTIONS, ICE_CLASSES, PRESSURES, STRUCTURE_FACTOR};
 
-// With three legs only even k.
-pub fn direction_fits(legs: Legs, k: u32) -> bool
-    ensures { result ≡ machine.direction_fits legs k }
-{
-    DIRECTIONS.contains(k)
-        && match legs {
-            Legs::Three => k % 2 == 0,
-            Legs::Four => true,
-        }
-}
-
 // Direction, ice class and structure factor.
 #[derive(Clone, Copy, Debug, PartialEq, Eq, Hash)]
 pub struct WindNumbers {
@@ -34,7 +23,7 @@ pub struct WindNumbers {
 fn numbers_fit(legs: Legs, w: WindNumbers) -> bool
     ensures { result ≡ machine.direction_fits legs w.direction && (ranges.within ranges.ice_classes w.ice && ranges.within ranges.structure_factor w.factor) }
 {
-    direction_fits(legs, w.direction)
+    legs.allows_direction(w.direction)
         && ICE_CLASSES.contains(w.ice)
         && STRUCTURE_FACTOR.contains(w.factor)
 }
