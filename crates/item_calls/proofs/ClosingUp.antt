@@ -1,80 +1,74 @@
--- Slots that a loop moves up over those that it leaves out, in place.
-use Prim.Native.Nat.{ℕ, ◌+◌, ◌≤◌, ◌<◌}
-use mathlib.Core.Path.{◌≡◌, refl, ap, sym, ◌∙◌}
-use mathlib.Core.Bool.{true, false}
-use mathlib.Core.List.{List, [], ◌∷◌, ◌++◌, append-nil}
-use native.Mathlib.Numerals.{add-one}
-use native.Mathlib.Omega.{arith}
-use lib.ListN.{length, take, drop, set, length-drop, length-set}
-use lib.Seq.{take-suc, drop-drop, get_or-drop, take-set-le, drop-set-lt, drop-set-add}
-use Rattle.model.specs.Lists.{kept, any_of}
-use Rattle.model.proofs.Lists.{kept_append}
-use Rattle.exact.proofs.Bools.{or_split}
-use Rattle.file_fields.proofs.Loops.{take_next}
-use Rattle.slots.specs.Held.{Slots, slot}
-use Rattle.item_calls.specs.Places.{has_number}
-use Rattle.item_calls.proofs.Numbers.{has_another, items-long}
+-- Items' slots from which those with a number are left out, where they stood.
+use Rattle.std.proofs.Common.{◌≡◌, ℕ, ◌+◌, ◌-◌, ◌≤◌, ◌<◌, Bool, true, false, Some, None, List, [], ◌∷◌, ◌++◌, length, take, drop, filter, position, refl, ap, sym, ◌∙◌, cond, arith, one-add}
+use Rattle.std.specs.List.{prefix_len}
+use Rattle.std.proofs.Math.Seq.{take-append-add}
+use Rattle.std.proofs.lemmas.List.{take-append-le, drop-append-le, drop-take, drop-drop, take-take}
+use Rattle.std.proofs.lemmas.Slice.{take-put_mid_below}
+use Rattle.std.proofs.lemmas.Grind.{common_steps}
+use borrow.Rule.Slice.PartMut.{mid_of, put_mid}
+use Rattle.slots.specs.Held.{Slots}
+use Rattle.item_calls.specs.Places.{has_number, has_another}
 
--- after i of the slots
-pub record Partly (number : ℕ) (before now : Slots) (n i : ℕ) : Type 0 where
-  pub items : take n (drop 65 now) ≡ kept (has_another number) (take i (drop 65 before))
-  pub ahead : drop i (drop 65 now) ≡ drop i (drop 65 before)
-  pub beside : take 65 now ≡ take 65 before
-  pub long : length now ≡ length before
+-- the slots of the first items that have another number stand at the front, n of them; the slots before the items are
+-- as they were
+pub record ClosedUp (number held : ℕ) (before after : Slots) (n : ℕ) : Type 0 where
+  pub items : take n (drop 65 after) ≡ filter (has_another number) (take held (drop 65 before))
+  pub beside : take 65 after ≡ take 65 before
+  pub long : length after ≡ length before
+  pub few : n ≤ held
 
--- where none has the number all are kept
-kept-none : (number : ℕ) (l : Slots) → any_of (has_number number) l ≡ false → kept (has_another number) l ≡ l
-kept-none number [] e = refl
-kept-none number (r ∷ l) e =
-    let f : _ = or_split (has_number number r) (any_of (has_number number) l) e in
-    rw f.0 (ap (λ (m : Slots). r ∷ m) (kept-none number l f.1))
+-- up to the first that a test fails all stay
+kept-front : {A : Type 0} (p : A → Bool) (xs : List A) → filter p xs ≡ take (prefix_len p xs) xs ++ filter p (drop (prefix_len p xs) xs)
+kept-front p [] = refl
+kept-front p (x ∷ xs) = by-case (p x) refl (kept-front p xs)
+  where
+    by-case : (b : Bool) → p x ≡ b → filter p xs ≡ take (prefix_len p xs) xs ++ filter p (drop (prefix_len p xs) xs)
+        → cond b (x ∷ filter p xs) (filter p xs)
+        ≡ take (cond b (1 + prefix_len p xs) 0) (x ∷ xs) ++ filter p (drop (cond b (1 + prefix_len p xs) 0) (x ∷ xs))
+    by-case true f e = rw one-add (ap (λ m. x ∷ m) e)
+    by-case false f e = rw f
 
-pub partly-start : (number place : ℕ) (l : Slots) → any_of (has_number number) (take place (drop 65 l)) ≡ false
-    → Partly number l l place place
-partly-start number place l e =
-    record { items = sym (kept-none number (take place (drop 65 l)) e); ahead = refl; beside = refl; long = refl }
+joined : (at place rest : ℕ) (l new tail : Slots) → at + place ≤ length l → rest ≤ length new
+    → take (place + rest) (drop at (take (at + place) l ++ (new ++ tail))) ≡ take place (drop at l) ++ take rest new
+joined at place rest l new tail h k =
+    let long : length (take place (drop at l)) ≡ place = grind (arith, common_steps) in
+    let shift : take (place + rest) (take place (drop at l) ++ (new ++ tail)) ≡ take place (drop at l) ++ take rest (new ++ tail) =
+    rw long at (take-append-add (take place (drop at l)) (new ++ tail) rest) in
+    ap (take (place + rest)) (drop-append-le at (take (at + place) l) (new ++ tail) (grind (arith, common_steps)))
+    ∙ ap (λ m. take (place + rest) (m ++ (new ++ tail))) (drop-take at place l)
+    ∙ shift ∙ ap (λ m. take place (drop at l) ++ m) (take-append-le rest new tail k)
 
-module _ (number : ℕ) (before now : Slots) (n i : ℕ) (wide : length before ≡ 129) (h : i < 64) (k : n ≤ i)
-    (p : Partly number before now n i) where
-  -- the slot that is read is as it was
-  read_is : slot now (65 + i) ≡ slot (drop 65 before) i
-  read_is =
-      sym (get_or-drop 65 now i []) ∙ ap (λ (m : ℕ). slot (drop 65 now) m) (omega arith) ∙ sym (get_or-drop i (drop 65 now) 0 [])
-      ∙ ap (λ (l : Slots). slot l 0) p.ahead ∙ get_or-drop i (drop 65 before) 0 [] ∙ ap (λ (m : ℕ). slot (drop 65 before) m) (omega arith)
+parts : (at place held : ℕ) (l : Slots) → place ≤ held
+    → (take place (take held (drop at l)) ≡ take place (drop at l)) × (drop place (take held (drop at l)) ≡ take (at + held - (at + place)) (drop (at + place) l))
+parts at place held l h =
+    let k : ℕ = at + held - (at + place) in
+    let whole : held ≡ place + k = omega arith in
+    (take-take place held (drop at l) h, ap (λ (n : ℕ). drop place (take n (drop at l))) whole ∙ drop-take place k (drop at l) ∙ ap (take k) (drop-drop place at l))
 
-  one_more : kept (has_another number) (take (i + 1) (drop 65 before))
-      ≡ kept (has_another number) (take i (drop 65 before)) ++ kept (has_another number) (slot (drop 65 before) i ∷ [])
-  one_more =
-      ap (kept (has_another number))
-      (ap (λ (m : ℕ). take m (drop 65 before)) (add-one i) ∙ take-suc (drop 65 before) i [] (omega (arith, items-long before wide)))
-      ∙ kept_append (has_another number) (take i (drop 65 before)) (slot (drop 65 before) i ∷ [])
+is-place : (b : Bool) {n place : ℕ} → cond b (Some n) None ≡ Some place → n ≡ place
+is-place true e = cc
+is-place false e = cc
 
-  ahead-one : (l : Slots) → drop i l ≡ drop i (drop 65 before) → drop (i + 1) l ≡ drop (i + 1) (drop 65 before)
-  ahead-one l e = sym (drop-drop 1 i l) ∙ ap (drop 1) e ∙ drop-drop 1 i (drop 65 before)
+module _ (number place held rest : ℕ) (l new : Slots) (wide : length l ≡ 129) (few : held ≤ 64)
+    (found : position (has_number number) (take held (drop 65 l)) ≡ Some place)
+    (long : length new ≡ length (mid_of (65 + place) (65 + held - (65 + place)) l))
+    (left : take rest new ≡ filter (has_another number) (mid_of (65 + place) (65 + held - (65 + place)) l))
+    (fewer : rest ≤ length (mid_of (65 + place) (65 + held - (65 + place)) l)) where
+  abbrev closed : Slots
+  closed = put_mid (65 + place) (65 + held - (65 + place)) l new
 
-  pub partly-less : has_another number (slot now (65 + i)) ≡ false → Partly number before now n (i + 1)
-  partly-less e =
-      let f : has_another number (slot (drop 65 before) i) ≡ false = ap (has_another number) (sym read_is) ∙ e in
+  on : place < held
+  on = grind (arith, common_steps)
+
+  front : prefix_len (has_another number) (take held (drop 65 l)) ≡ place
+  front = is-place _ found
+
+  pub closed-up : ClosedUp number held l closed (place + rest)
+  closed-up =
+      let q = parts 65 place held l (omega (arith, on)) in
       record {
-        items = p.items ∙ sym (one_more ∙ rw f (append-nil (kept (has_another number) (take i (drop 65 before)))));
-        ahead = ahead-one (drop 65 now) p.ahead;
-        beside = p.beside;
-        long = p.long;
-      }
-
-  pub partly_more : has_another number (slot now (65 + i)) ≡ true
-      → Partly number before (set now (65 + n) (slot now (65 + i))) (n + 1) (i + 1)
-  partly_more e =
-      let x : List ℕ = slot now (65 + i) in
-      let f : has_another number (slot (drop 65 before) i) ≡ true = ap (has_another number) (sym read_is) ∙ e in
-      let s : drop 65 (set now (65 + n) x) ≡ set (drop 65 now) n x = drop-set-add 65 now n x in
-      record {
-        items =
-            ap (take (n + 1)) s ∙ take_next (drop 65 now) n x (omega (arith, length-drop 65 now, p.long, wide))
-            ∙ ap (λ (l : Slots). l ++ (x ∷ [])) p.items
-            ∙ ap (λ (r : List ℕ). kept (has_another number) (take i (drop 65 before)) ++ (r ∷ [])) read_is
-            ∙ sym (one_more ∙ rw f);
-        ahead = ap (drop (i + 1)) s ∙ drop-set-lt (i + 1) (drop 65 now) n x (omega arith) ∙ ahead-one (drop 65 now) p.ahead;
-        beside = take-set-le 65 now (65 + n) x (omega arith) ∙ p.beside;
-        long = length-set now (65 + n) x ∙ p.long;
+        items = joined 65 place rest l new _ (omega (arith, on)) (omega (arith, long)) ∙ ap (λ m. take place (drop 65 l) ++ m) left ∙ sym (rw (front, q.0, q.1) at (kept-front {A = List ℕ} (has_another number) (take held (drop 65 l))));
+        beside = take-put_mid_below (65 + place) (65 + held - (65 + place)) l new 65 (omega arith) (omega (arith, on));
+        long = grind (arith, common_steps, on);
+        few = grind (arith, common_steps, on);
       }

@@ -1,6 +1,8 @@
 -- The ways out of take down, over plain values.
-use Prim.Native.Nat.{ℕ, ◌≤◌}
-use mathlib.Core.Path.{◌≡◌, refl, ap, sym, ◌∙◌}
+use Prim.Native.Nat.{ℕ, ◌+◌, ◌-◌, ◌≤◌}
+use Rattle.std.proofs.Common.{Option, Some, None, filter, position}
+use borrow.Rule.Slice.PartMut.{mid_of, put_mid}
+use mathlib.Core.Path.{◌≡◌, refl, ap, sym, subst, ◌∙◌}
 use mathlib.Core.Bool.{true, false, not}
 use mathlib.Core.List.{List, [], map}
 use native.Mathlib.Omega.{arith}
@@ -15,8 +17,9 @@ use Rattle.slots.specs.Held.{Slots, slot, is_standing, held_in, item_of, items_i
 use Rattle.slots.specs.Promises.{leaves, Meets}
 use Rattle.slots.proofs.WaysOut.{accepted, refusal-of, met, unmet}
 use Rattle.slots.proofs.Grounds.{standing-as, held-few}
-use Rattle.item_calls.specs.Places.{ClosedUp}
-use Rattle.item_calls.proofs.Numbers.{slots-without}
+use Rattle.item_calls.specs.Places.{has_number, has_another}
+use Rattle.item_calls.proofs.ClosingUp.{ClosedUp, closed-up}
+use Rattle.item_calls.proofs.Numbers.{slots-without, numbered-placed}
 use Rattle.item_calls.proofs.Recounted.{wind_held, recounted-state, recounted-left}
 use Rattle.item_calls.proofs.WaysOut.{stepped}
 
@@ -47,8 +50,19 @@ module _ (l : Slots) (long : length l ≡ 129) (s : is_standing l ≡ true) (num
         (sym (same-lent (state_of l) (take_down number) refl))
         (recounted-left l after long (q.long ∙ long) before-items n few head next)
 
-  -- the same where the number of items is known by another name
-  pub down-closed : numbered number (items_in l) ≡ true → {held : ℕ} → held ≡ held_in l → {after : Slots} {n : ℕ}
-      → ClosedUp number held l after n → {head : List ℕ} → NextCell (slot after 0) 3 n head
-      → Meets (take_down number) l (set after 0 head) (accepts []) []
-  down-closed there {held} e {after} {n} q {head} next = down-done there after n (rw e at q) head next
+  -- by what the code has found: the place of the first with the number, and the slots from there on
+  module _ {seen : Slots} (read : seen ≡ take (held_in l) (drop 65 l)) {r : Option ℕ} (asked : r ≡ position (has_number number) seen) where
+    pub down-absent : r ≡ None → refusal_of (state_of l) (take_down number) ≡ 14
+    down-absent e = down-none (numbered-placed number _ ∙ rw (← read, ← asked, e))
+
+    pub down-closed : {held place rest : ℕ} (new : Slots) {head : List ℕ} → held ≡ held_in l → r ≡ Some place
+        → length new ≡ length (mid_of (65 + place) (65 + held - (65 + place)) l)
+        → take rest new ≡ filter (has_another number) (mid_of (65 + place) (65 + held - (65 + place)) l)
+        → rest ≤ length (mid_of (65 + place) (65 + held - (65 + place)) l)
+        → NextCell (slot (put_mid (65 + place) (65 + held - (65 + place)) l new) 0) 3 (place + rest) head
+        → Meets (take_down number) l (set (put_mid (65 + place) (65 + held - (65 + place)) l new) 0 head) (accepts []) []
+    down-closed {held} {place} {rest} new {head} counted e h k m next =
+        let found : position (has_number number) (take (held_in l) (drop 65 l)) ≡ Some place = rw (← read, ← asked, e) in
+        let q = closed-up number place held rest l new long (omega (arith, held-few l)) (rw counted found) h k m in
+        let after : Slots = put_mid (65 + place) (65 + held - (65 + place)) l new in
+        down-done (numbered-placed number _ ∙ rw found) after (place + rest) (subst (λ (n : ℕ). ClosedUp number n l after (place + rest)) counted q) head next

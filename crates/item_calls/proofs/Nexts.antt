@@ -9,7 +9,8 @@ use lib.Seq.{length-take-le, take_at, drop_at}
 use borrow.Author.Tests.{not-false}
 use Rattle.model.specs.declared.Item.{Item}
 use Rattle.model.specs.Answers.{accepts}
-use Rattle.model.specs.Lists.{kept, all_of}
+use Rattle.std.proofs.Common.{filter}
+use Rattle.model.specs.Lists.{all_of}
 use Rattle.model.specs.File.{numbered}
 use Rattle.model.specs.Machine.{State, standing}
 use Rattle.model.specs.Calls.{Call, hang, take_down, typed_item, refusal_of}
@@ -23,8 +24,8 @@ use Rattle.slots.proofs.Codec.{item_back}
 use Rattle.slots.proofs.Grounds.{standing-as, held-few, item_count}
 use Rattle.slots.proofs.TypedSlots.{item-typed}
 use Rattle.slots.proofs.Nexts.{next-cell, typed-cell, slot-typed, typed-set, stands-if}
-use Rattle.item_calls.specs.Places.{ClosedUp}
-use Rattle.item_calls.proofs.Numbers.{has_another, items-long}
+use Rattle.item_calls.specs.Places.{has_another}
+use Rattle.item_calls.proofs.ClosingUp.{ClosedUp}
 use Rattle.item_calls.proofs.Recounted.{wind_held}
 use Rattle.item_calls.proofs.WaysOut.{hang-done}
 use Rattle.item_calls.proofs.Downs.{down-done}
@@ -66,7 +67,7 @@ all_drop p n l h = (all-parts p (take n l) (drop n l) (ap (all_of p) (take-appen
 
 module _ (l : Slots) (t : TypedSlots l) (number : ℕ) where
   abbrev others : Slots
-  others = kept (has_another number) (take (held_in l) (drop 65 l))
+  others = filter (has_another number) (take (held_in l) (drop 65 l))
 
   abbrev closed : Slots
   closed = take 65 l ++ (others ++ drop (65 + length others) l)
@@ -79,7 +80,7 @@ module _ (l : Slots) (t : TypedSlots l) (number : ℕ) where
       omega (
         arith,
         length-kept (has_another number) (take (held_in l) (drop 65 l)),
-        length-take-le (held_in l) (drop 65 l) (omega (arith, items-long l t.long, held-few l)),
+        length-take-le (held_in l) (drop 65 l) (omega (arith, length-drop 65 l, t.long, held-few l)),
       )
 
   closed-long : length closed ≡ 129

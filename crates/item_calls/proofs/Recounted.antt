@@ -14,9 +14,8 @@ use Rattle.model.specs.declared.Item.{Item}
 use Rattle.model.specs.Tower.{Wind}
 use Rattle.model.specs.Machine.{standing}
 use Rattle.exact.proofs.Bools.{clash, and_split}
-use Rattle.slots.specs.Held.{Slots, slot, cell, is_standing, at_most, held_in, item_of, items_in, ground_of, is_windy, tower_on, wind_in, state_of, NextCell}
+use Rattle.slots.specs.Held.{Slots, slot, cell, is_standing, held_in, item_of, items_in, ground_of, is_windy, tower_on, wind_in, state_of, NextCell}
 use Rattle.slots.specs.Promises.{beside_items}
-use Rattle.slots.proofs.Lists.{within}
 use Rattle.slots.proofs.Grounds.{standing-as, ground-cells}
 
 abbrev pub wind_held : Slots → Option Wind
@@ -44,7 +43,7 @@ module _ (l after : Slots) (long : length l ≡ 129) (as_long : length after ≡
 
   held : held_in put ≡ n
   unfolding held_in
-  held = ap (at_most 64) (ap (λ (r : List ℕ). get_or r 3 0) top ∙ next.it) ∙ within 64 n few
+  held = omega (arith, ap (λ (r : List ℕ). get_or r 3 0) top, next.it)
 
   still : is_standing l ≡ true → is_standing put ≡ true
   unfolding is_standing

@@ -2,4 +2,5 @@
 #![tactic(auto)]
 
 pub mod hang;
+mod places;
 pub mod take_down;

@@ -1,41 +1,26 @@
 // One item less.
-ghost use Rattle.std.specs.Prelude.{◌≡◌, false, [], ◌≤◌, length, take, drop};
-ghost use Rattle.model.specs.Lists.{any_of};
+ghost use Rattle.std.specs.Prelude.{◌≡◌, [], ◌≤◌, length, take, filter};
 ghost use Rattle.model.specs.Answers.{answer_reply};
 ghost use Rattle.model.specs.Calls as call;
 ghost use Rattle.slots.specs.Promises.{Meets};
-ghost use Rattle.item_calls.specs.Places.{has_number, Placed, ClosedUp};
+ghost use Rattle.item_calls.specs.Places.{has_another};
 
-use model::{Answer, Refusal};
-use slots::Slot;
-use slots::head::{held_in, is_standing, with_held};
-use slots::items::number_at;
+use crate::places::place_of;
+use model::Refusal;
+use slots::head::{held_in, is_standing, set_held};
+use slots::items::{ITEMS, item_slots, number_in};
+use slots::{Slot, State};
 
-// The place of the first item with the number, or how many items there are.
-fn place_of(s: &[Slot], number: u16, held: usize) -> usize
-    requires { (length s.now ≡ 129) × (held ≤ 64) }
-    ensures { Placed number held s.now result }
+// The slots of the items that have another number, moved up to the front in place; and how many they are.
+#[tactic(auto, using(std::proofs::lemmas::List::Elements::filter_more))]
+fn close_up(items: &mut [Slot], number: u16) -> usize
+    ensures left { take result items.new ≡ filter (has_another number) items.old }
+    ensures few { result ≤ length items.old }
 {
-    for i in 0usize..held {
-        if number_at(s, i) == number {
-            return i;
-        }
-    }
-    held
-}
-
-// The slots of the items that have another number, moved up, where none before the place has it; and how many they are.
-fn close_up(s: &mut [Slot], number: u16, place: usize, held: usize) -> usize
-    requires { (length s.old ≡ 129) × (held ≤ 64) × (place ≤ held) × (any_of (has_number number) (take place (drop 65 s.old)) ≡ false) }
-    ensures { ClosedUp number held s.old s.new result }
-{
-    let mut n: usize = place;
-    for i in place..held {
-        if number_at(s, i) != number {
-            let from = 65 + i;
-            let slot = s[from];
-            let to = 65 + n;
-            s[to] = slot;
+    let mut n = 0;
+    for i in 0..items.len() {
+        if number_in(&items[i]) != number {
+            items[n] = items[i];
             n += 1;
         }
     }
@@ -43,21 +28,15 @@ fn close_up(s: &mut [Slot], number: u16, place: usize, held: usize) -> usize
 }
 
 // The item with this number is removed; the others keep their order.
-pub fn take_down(s: &mut [Slot], number: u16) -> Answer
-    requires { length s.old ≡ 129 }
+pub fn take_down(s: &mut State, number: u16) -> Result<(), Refusal>
     ensures { Meets (call.take_down number) s.old s.new (answer_reply result) [] }
 {
     if !is_standing(s) {
-        return Answer::Refused(Refusal::NoTower);
+        return Err(Refusal::NoTower);
     }
+    let place = place_of(item_slots(s), number).ok_or(Refusal::NoSuchItem)?;
     let held = held_in(s);
-    let place = place_of(s, number, held);
-    if held <= place {
-        return Answer::Refused(Refusal::NoSuchItem);
-    }
-    let rest = close_up(s, number, place, held);
-    let head = s[0];
-    let next = with_held(head, rest);
-    s[0] = next;
-    Answer::Accepted
+    let rest = close_up(&mut s[ITEMS + place..ITEMS + held], number);
+    set_held(&mut s[0], place + rest);
+    Ok(())
 }

@@ -1,11 +1,10 @@
-use Rattle.std.proofs.Common.{refl, sym, ◌∙◌}
-use borrow.Author.Tests.{lt-ltb, le-ltb}
+use Rattle.std.proofs.Common.{◌≡◌, Some, None, refl, sym, ◌∙◌, arith}
+use Rattle.std.proofs.lemmas.Result.{err_from_is_err_and}
 use Rattle.model.specs.declared.Refusal.TheVariants as refusal
 use Rattle.model.specs.Calls.{take_down}
 use Rattle.slots.proofs.Grounds.{fallen}
 use Rattle.slots.proofs.WaysOut.{turned_down, refusal-of}
-use Rattle.item_calls.proofs.Downs.{down-none, down-closed}
-use Rattle.item_calls.proofs.Numbers.{told}
+use Rattle.item_calls.proofs.Downs.{down-absent, down-closed}
 use Rattle.item_calls.proofs.take_down.take_down.Goals as goal
 
 pub returns-then-not-is_standing : goal.returns-then-not-is_standing
@@ -14,16 +13,21 @@ returns-then-not-is_standing c =
     turned_down (take_down b.number) b.s.now refusal.NoTower
     (refusal-of (take_down b.number) (fallen b.s.now (sym c.is_standing.ensures ∙ c.if-not-is_standing.true)) refl)
 
-pub returns-then-held-place : goal.returns-then-held-place
-returns-then-held-place c =
+pub returns-in_err-place : goal.returns-in_err-place
+returns-in_err-place c =
     let b = c.args in
-    turned_down (take_down b.number) b.s.now refusal.NoSuchItem
-    (down-none b.s.now c.requires (sym c.is_standing.ensures ∙ c.if-not-is_standing.false) b.number
-    (told b.s.now b.number c.held_in-held.ensures.0 c.place_of-place.ensures.there (le-ltb _ _ c.if-held-place.true)))
+    let up = sym c.is_standing.ensures ∙ c.if-not-is_standing.false in
+    let p = err_from_is_err_and c.from_residual.result c.from_residual.ensures.1 in
+    let absent : c.place_of.result ≡ None = grind arith in
+    let error : c.in_err-place.field-0.0 ≡ refusal.NoSuchItem = grind arith in
+    rw (p.1, p.2, error)
+    (turned_down (take_down b.number) b.s.now refusal.NoSuchItem (down-absent b.s.now c.told-s up b.number c.item_slots.ensures.slots c.place_of.ensures absent))
 
 pub returns : goal.returns
 returns c =
     let b = c.args in
-    down-closed b.s.now c.requires (sym c.is_standing.ensures ∙ c.if-not-is_standing.false) b.number
-    (told b.s.now b.number c.held_in-held.ensures.0 c.place_of-place.ensures.there (lt-ltb _ _ c.if-held-place.false))
-    c.held_in-held.ensures.0 c.close_up-rest.ensures c.with_held-next.ensures
+    let up = sym c.is_standing.ensures ∙ c.if-not-is_standing.false in
+    let rest = c.close_up-rest in
+    let found : c.place_of.result ≡ Some c.in_ok-place.place = grind arith in
+    down-closed b.s.now c.told-s up b.number c.item_slots.ensures.slots c.place_of.ensures rest.new.items c.held_in-held.ensures.0 found rest.auto.items
+    rest.ensures.left rest.ensures.few c.set_held.ensures
