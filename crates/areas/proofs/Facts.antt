@@ -14,7 +14,7 @@ use Rattle.model.specs.Ranges.{within, member_size, member_length}
 use Rattle.model.specs.Areas.{size_of, group_area}
 use Rattle.model.specs.Valid.{group_fits}
 use Rattle.exact.proofs.Bools.{and_split}
-use Rattle.model.proofs.Sections.{InRange, in-range}
+use Rattle.model.proofs.Sections.{InRange, in-range, item-bound}
 
 -- what is read past a list's end
 abbrev pub no_group : Group
@@ -49,3 +49,6 @@ pub group-bound : (t : Length) (g : Group) → t.0 ≤ 50 → GroupFacts g → (
 unfolding group_area
 group-bound t g h f =
     mul-le-mul {n₁ = (size_of g.member).0 + 2 * t.0} {m₁ = g.length.0} {n₂ = 1100} {m₂ = 200_000} (omega arith) (omega arith)
+
+-- an item's part is at most that of the largest
+pub ruleset item_bounds = (item-bound)

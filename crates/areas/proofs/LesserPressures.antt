@@ -44,9 +44,9 @@ module _ (q : ℕ) (d : Length) (g : flow_limit < 2 * q * (d.0 * d.0)) where
 
 -- a round that turns supercritical between p and p + 1 has the lesser wind p under every higher pressure, and no other has
 module _ (t : Length) (p : ℕ) (d : Length) where
-  pub not-turned : is_supercritical t p d ≡ true → (q : ℕ) → p < q → false ≡ any_of (eqb p) (lesser_of t q (Round d))
+  pub not_turned : is_supercritical t p d ≡ true → (q : ℕ) → p < q → false ≡ any_of (eqb p) (lesser_of t q (Round d))
   unfolding lesser_of
-  not-turned h q l = go (is_supercritical t q d) refl
+  not_turned h q l = go (is_supercritical t q d) refl
     where
       go : (b : Bool) → is_supercritical t q d ≡ b → false ≡ any_of (eqb p) (cond b (flow_limit / (2 * (d.0 * d.0)) ∷ []) [])
       go true e =

@@ -86,28 +86,17 @@ pub after-small : {t : Length} {q : ℕ} {l : List Group} {i : ℕ} {a : Areas} 
 after-small few s = record { flat = omega arith; subcritical = omega arith; supercritical = omega arith }
 
 -- the same for A_S
-pub solid-none : (t : Length) → record { 0 = 0 } ≡ solid_of t []
+area-eq : {a b : Area} → a.0 ≡ b.0 → a ≡ b
+area-eq e = ap (λ (n : ℕ). let x : Area = record { 0 = n } in x) e
+
+pub solid-none : (t : Length) {a : Area} → a.0 ≡ 0 → a ≡ solid_of t []
 unfolding solid_of sum_by
-solid-none t = refl
+solid-none t e = area-eq e
 
-pub solid-next : (t : Length) (l : List Group) (i : ℕ) (d : Group) → i < length l → (sum a : Area)
-    → sum ≡ solid_of t (take i l) → a ≡ group_area t (get_or l i d) → record { 0 = sum.0 + a.0 } ≡ solid_of t (take (i + 1) l)
+pub solid-next : (t : Length) (l : List Group) (i : ℕ) (d : Group) → i < length l → {sum a r : Area}
+    → sum ≡ solid_of t (take i l) → a ≡ group_area t (get_or l i d) → r.0 ≡ sum.0 + a.0 → r ≡ solid_of t (take (i + 1) l)
 unfolding solid_of
-solid-next t l i d h sum a e f = rw (e, f, sum_by-more (λ g. (group_area t g).0) l i d h)
-
--- the group's area goes to the sum of its class alone
-pub added : (class : Flow) (t : Length) (q : ℕ) (g : Group) (x : Area) (a r : Areas) → flow_of t q g.member ≡ class → x ≡ group_area t g
-    → (r.flat.0 ≡ a.flat.0 + (cond (same_flow flow.Flat class) x (record { 0 = 0 })).0)
-    × (r.subcritical.0 ≡ a.subcritical.0 + (cond (same_flow flow.Subcritical class) x (record { 0 = 0 })).0)
-    × (r.supercritical.0 ≡ a.supercritical.0 + (cond (same_flow flow.Supercritical class) x (record { 0 = 0 })).0)
-    → Added t q g a r
-unfolding area_in
-added class t q g x a r h e s =
-    record {
-      flat = rw (h, ← e) s.0;
-      subcritical = rw (h, ← e) s.1;
-      supercritical = rw (h, ← e) s.2;
-    }
+solid-next t l i d h e f g = area-eq (g ∙ rw (e, f, sum_by-more (λ g. (group_area t g).0) l i d h))
 
 items-none : (t : Length) (section : ℕ) → item_sum t section [] ≡ 0
 unfolding item_sum

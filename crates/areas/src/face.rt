@@ -36,9 +36,9 @@ impl<'a> Face<'a> {
     pub fn solid(&self, ice: Ice) -> Area
         ensures { result ≡ solid_of ice.thickness self.now.groups.now }
     {
-        let mut sum = Area(0);
+        let mut sum = Area::default();
         for group in self.groups {
-            sum.0 += group_area(ice, *group).0;
+            sum = sum + group_area(ice, *group);
         }
         sum
     }

@@ -19,6 +19,7 @@ fn coefficient(t: Length, item: Item) -> u16
 }
 
 // Coefficient · K · area, in millionths of mm².
+#[tactic(auto, using(crate::proofs::Facts::item_bounds), unfolding(model::specs::Force::item_part, model::specs::Areas::item_area))]
 pub fn item_part(ice: Ice, item: Item) -> u64
     requires { fields_in_range item ≡ true }
     ensures value { result ≡ item_part ice.thickness item }

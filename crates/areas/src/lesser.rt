@@ -39,6 +39,7 @@ fn lesser_pressure(t: Length, q: u16, member: Member) -> Option<u16>
 }
 
 // Whether p is the lesser wind of a member under a higher pressure: whether it turns supercritical above p.
+#[tactic(auto, using(crate::proofs::LesserPressures::turned, crate::proofs::LesserPressures::not_turned), unfolding(model::specs::Areas::lesser_of))]
 fn turns_above(t: Length, p: u16, member: Member) -> bool
     requires { ((size_of member).0 ≤ 1000) × (p < 65_535) }
     ensures { (q : ℕ) → p < q → result ≡ any_of (eqb p) (lesser_of t q member) }

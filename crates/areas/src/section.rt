@@ -14,7 +14,7 @@ pub(crate) fn iced_area(ice: Ice, width: Length, length: Length) -> Area
     requires { (width.0 ≤ 3000) × (length.0 ≤ 200_000) }
     ensures { result ≡ iced_area ice.thickness width length }
 {
-    Area((width.0 as u64 + 2 * (ice.thickness.0 as u64)) * (length.0 as u64))
+    Length(width.0 + 2 * ice.thickness.0) * length
 }
 
 #[tactic(auto, unfolding(model::specs::Areas::group_area))]
@@ -55,6 +55,7 @@ pub fn flow_class(t: Length, q: u16, member: Member) -> Flow
 }
 
 // The three sums with a group's area in the sum of its flow class.
+#[tactic(auto, unfolding(model::specs::Areas::area_in))]
 pub(crate) fn add_group(ice: Ice, q: u16, group: Group, sum: Areas) -> Areas
     requires { (group_fits group ≡ true) × SmallAreas sum }
     ensures { Added ice.thickness q group sum result }
@@ -62,15 +63,15 @@ pub(crate) fn add_group(ice: Ice, q: u16, group: Group, sum: Areas) -> Areas
     let area = group_area(ice, group);
     match flow_class(ice.thickness, q, group.member) {
         Flow::Flat => Areas {
-            flat: Area(sum.flat.0 + area.0),
+            flat: sum.flat + area,
             ..sum
         },
         Flow::Subcritical => Areas {
-            subcritical: Area(sum.subcritical.0 + area.0),
+            subcritical: sum.subcritical + area,
             ..sum
         },
         Flow::Supercritical => Areas {
-            supercritical: Area(sum.supercritical.0 + area.0),
+            supercritical: sum.supercritical + area,
             ..sum
         },
     }
@@ -83,5 +84,5 @@ pub fn gross_area(section: &Section) -> Area
     ensures value { result ≡ gross (section_of section.now) }
     ensures small { result.0 ≤ largest_gross }
 {
-    Area((section.width.0 as u64) * (section.height.0 as u64))
+    section.width * section.height
 }

@@ -34,7 +34,7 @@ pub enum Member {
 
 impl Member {
     // The width or the diameter.
-    pub const fn size(self) -> Length
+    pub fn size(self) -> Length
         ensures { result ≡ size_of self }
     {
         match self {
@@ -114,11 +114,11 @@ pub struct Areas {
 impl Areas {
     // A_S: their sum.
     #[tactic(auto, unfolding(crate::specs::Areas::solid))]
-    pub const fn solid(self) -> Area
+    pub fn solid(self) -> Area
         requires { (solid self).0 < 2 ^ 64 }
         ensures { result ≡ solid self }
     {
-        Area(self.flat.0 + self.subcritical.0 + self.supercritical.0)
+        self.flat + self.subcritical + self.supercritical
     }
 }
 

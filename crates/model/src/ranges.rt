@@ -61,7 +61,7 @@ pub const LARGEST_FORCE: u64 = 0x800_0000;
 pub const LARGEST_ITEM: u64 = 3000 * 1000 * (3100 * 10_000);
 
 impl Range {
-    pub const fn contains(self, x: u32) -> bool
+    pub fn contains(self, x: u32) -> bool
         ensures { result ≡ ranges.within self x }
     {
         self.low <= x && x <= self.high

@@ -1,6 +1,8 @@
 // The quantities of document 01. Each is a type of its own, so that an area is never added to a length.
 #![tactic(auto)]
 
+mod operators;
+
 // Millimetres.
 #[derive(Clone, Copy, Debug, PartialEq, Eq, PartialOrd, Ord, Hash, Default)]
 pub struct Length(pub u32);
