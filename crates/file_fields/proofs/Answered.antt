@@ -5,7 +5,7 @@ use mathlib.Core.List.{List}
 use native.Mathlib.Omega.{arith}
 use lib.ListN.{length, drop, take, length-drop}
 use lib.Seq.{take_all, drop-drop}
-use Rattle.std.specs.Prelude.{Result, Ok}
+use Rattle.std.specs.Prelude.{Result, Ok, Err}
 use Rattle.std.specs.Result.{IsErrAnd}
 use Rattle.std.proofs.lemmas.Result.{err_from_is_err_and}
 use Rattle.model.specs.declared.Range.{Range}
@@ -24,15 +24,17 @@ pub rest-is : (s : List ℕ) (i : ℕ) → rest s i ≡ drop i s
 rest-is s i = take_all (length s - i) (drop i s) (omega (arith, length-drop i s))
 
 -- a part that is read from there: its next place counts from there
-module _ {A : Type 0} (f : List ℕ → Parsed A) (s : List ℕ) (i : ℕ) where
-  pub onward : {B : Type 0} (view : B → A) → i ≤ length s → {b : B} {n : ℕ} → Says view (rest s i) (f (rest s i)) (Ok (b, n)) → Says view s (f (drop i s)) (Ok (b, i + n))
-  onward view l {b} {n} h =
+module _ {A : Type 0} (f : List ℕ → Parsed A) (s : List ℕ) (i : ℕ) {B : Type 0} {view : B → A} where
+  pub onward : i ≤ length s → {b : B} {n : ℕ} → ReadsAs view (rest s i) (f (rest s i)) (Ok (b, n)) → Says view s (f (drop i s)) (Ok (b, i + n))
+  onward l {b} {n} h =
       let e : rest s i ≡ drop i s = rest-is s i in
-      let k : n ≤ length (drop i s) = subst (λ (t : List ℕ). n ≤ length t) e h.1 in
-      (ap f (sym e) ∙ h.0 ∙ ap (λ (t : List ℕ). got (view b) (drop n t)) e ∙ ap (got (view b)) (drop-drop n i s), omega (arith, length-drop i s, k))
+      let k : n ≤ length (drop i s) = subst (λ (t : List ℕ). n ≤ length t) e h.says.1 in (
+        ap f (sym e) ∙ h.says.0 ∙ ap (λ (t : List ℕ). got (view b) (drop n t)) e ∙ ap (got (view b)) (drop-drop n i s),
+        omega (arith, length-drop i s, k),
+      )
 
-  pub onward-no : {n : ℕ} → f (rest s i) ≡ refused n → f (drop i s) ≡ refused n
-  onward-no h = ap f (sym (rest-is s i)) ∙ h
+  pub onward-no : {e : Refusal} → ReadsAs view (rest s i) (f (rest s i)) (Err e) → f (drop i s) ≡ refused (refusal_number e)
+  onward-no h = ap f (sym (rest-is s i)) ∙ h.says
 
 -- a refusal that is handed on by `?`
 pub passed_on : {A B : Type 0} (view : B → A) {s : List ℕ} {p : Parsed A} (e : Refusal) (r : Result (B × ℕ) Refusal)

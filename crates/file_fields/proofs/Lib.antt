@@ -1,4 +1,3 @@
 pub mod Answered
 pub mod Fetched
-pub mod SoFar
 pub mod Writing

@@ -1,3 +1,3 @@
-pub mod Marks
+pub mod Lengths
 pub mod Order
-pub mod StoredSections
+pub mod SoFar

@@ -1,24 +1,30 @@
 -- The file's parts in their order: a section is its head, then its groups; the file ends in the items with their count.
-use Prim.Native.Nat.{ℕ, ◌%◌, ◌≤◌, ◌<◌}
+use Prim.Native.Nat.{ℕ, ◌+◌, ◌%◌, ◌≤◌, ◌<◌}
 use mathlib.Core.Path.{◌≡◌, refl, ap, sym, ◌∙◌}
 use mathlib.Core.Bool.{Bool, true, false, not}
-use mathlib.Core.List.{List, []}
+use mathlib.Core.List.{List, [], map}
 use lib.Dec.{leb, eqb}
-use lib.ListN.{length}
+use lib.ListN.{length, drop}
 use borrow.Author.Tests.{le-leb, lt-leb}
+use Rattle.std.specs.Prelude.{Ok, Err}
+use Rattle.std.proofs.lemmas.List.{map-id}
+use Rattle.arrayvec.specs.ArrayVec.{ArrayVec}
 use Rattle.units.specs.declared.Area.{Area}
 use Rattle.model.specs.declared.Range.{Range}
 use Rattle.model.specs.declared.Group.{Group}
 use Rattle.model.specs.declared.Item.{Item}
+use Rattle.model.specs.declared.Refusal.{Refusal}
+use Rattle.model.specs.Answers.{refusal_number}
 use Rattle.model.specs.Ranges.{leg_count, section_count, section_width, section_height, group_count, item_count}
 use Rattle.model.specs.Tower.{Section}
 use Rattle.model.specs.Areas.{bare_solid, gross}
-use Rattle.model.specs.Reading.{Parsed, got, refused, then, require, field, ranged}
-use Rattle.model.specs.File.{legs_of, read_groups, read_section, read_sections, numbered, read_item, read_items, read_file}
+use Rattle.model.specs.Reading.{Parsed, got, refused, then, require, field, ranged, many}
+use Rattle.model.specs.File.{legs_of, read_group, read_groups, read_section, read_sections, numbered, read_item, read_items, read_file}
 use Rattle.model.proofs.Readings.{Gives, given, when-got, gives, then-gives, require-gives, anything}
-use Rattle.file_parts.specs.declared.Head.{Head}
+use Rattle.file_fields.specs.Outcomes.{ReadsAs}
+use Rattle.file_parts.specs.declared.sections.Head.{Head}
 use Rattle.file_parts.specs.Parts.{read_head, read_item_rest, read_item_part}
-use Rattle.file_fields.proofs.Answered.{ranged-high}
+use Rattle.file_fields.proofs.Answered.{rest, onward, onward-no, ranged-high}
 
 -- a reading within a reading, and one behind a rule
 then-then : {A B C : Type 0} (p : Parsed A) (f : A → List ℕ → Parsed B) (g : B → List ℕ → Parsed C)
@@ -78,6 +84,21 @@ items-last s =
     then_same (ranged 1 section_count 4 s₁) λ count s₂.
     then_same (read_sections count s₂) λ sections s₃.
     sym (then-then (ranged 1 item_count 9 s₃) (λ held s₄. read_items count held s₄) _)
+
+-- a section's groups, read behind its head
+pub groups-behind : (n : ℕ) (s : List ℕ) (at : ℕ) → at ≤ length s → {groups : ArrayVec Group} {used : ℕ}
+    → ReadsAs (λ (parts : ArrayVec Group). map (λ (g : Group). g) parts.items) (rest s at) (many (λ (l : List Group). read_group) n [] (rest s at)) (Ok (groups, used))
+    → (read_groups n (drop at s) ≡ got groups.items (drop (at + used) s)) × (at + used ≤ length s)
+unfolding read_groups
+groups-behind n s at l {groups} h =
+    let g = onward (many (λ (l : List Group). read_group) n []) s at l h in
+    (rw map-id at g.0, g.1)
+
+pub groups-barred : (n : ℕ) (s : List ℕ) (at : ℕ) → {e : Refusal}
+    → ReadsAs (λ (parts : ArrayVec Group). map (λ (g : Group). g) parts.items) (rest s at) (many (λ (l : List Group). read_group) n [] (rest s at)) (Err e)
+    → read_groups n (drop at s) ≡ refused (refusal_number e)
+unfolding read_groups
+groups-barred n s at h = onward-no (many (λ (l : List Group). read_group) n []) s at h
 
 -- what is known of a head that was read
 pub record HeadFacts (h : Head) : Type 0 where

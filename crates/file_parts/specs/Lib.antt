@@ -1,3 +1,2 @@
-pub mod PartOutcomes
+pub mod Marks
 pub mod Parts
-pub mod Stored

@@ -6,7 +6,7 @@ use Rattle.model.specs.declared.Item.{Item}
 use Rattle.model.specs.Ranges.{section_width, section_height, group_count, item_count}
 use Rattle.model.specs.Reading.{Parsed, got, then, require, field, ranged}
 use Rattle.model.specs.File.{read_item_fields, read_items}
-use Rattle.file_parts.specs.declared.Head.{Head}
+use Rattle.file_parts.specs.declared.sections.Head.{Head}
 
 unfoldable pub read_head : List ℕ → Parsed Head
 read_head s =

@@ -1,71 +1,51 @@
 use Rattle.std.proofs.Common.{refl, arith}
 use Rattle.model.specs.Ranges.{coefficients, position_factor}
 use Rattle.model.specs.File.{read_item_fields}
-use Rattle.file_fields.specs.Outcomes.{field_outcome}
-use Rattle.file_fields.proofs.Answered.{took, handed, ranged-high}
+use Rattle.file_fields.proofs.Answered.{passed_on, ranged-high}
 use Rattle.file_parts.proofs.items.read_item_fields.Goals as goal
 
-pub returns-in_default : goal.returns-in_default
+pub returns-in_err-width : goal.returns-in_err-width
 unfolding read_item_fields
-returns-in_default c =
-    let n = handed field_outcome c.read_ranged-f.ensures c.in_default.is refl _ c.field_refusal.ensures in
-    record { says = rw (n) refl }
+returns-in_err-width c = passed_on _ _ _ c.from_residual.ensures.1 (rw c.in_err-width.ensures.says refl)
 
-pub returns-in_default-f2 : goal.returns-in_default-f2
+pub returns-in_err-length : goal.returns-in_err-length
 unfolding read_item_fields
-returns-in_default-f2 c =
-    let width = took field_outcome c.read_ranged-f.ensures c.in-Value.is in
-    let n = handed field_outcome c.read_ranged-f2.ensures c.in_default-f2.is refl _ c.field_refusal-in_default-f2.ensures in
-    record { says = rw (width.0, n) refl }
+returns-in_err-length c = passed_on _ _ _ c.from_residual-in_err-length.ensures.1 (rw (c.in_ok-width.ensures.says.0, c.in_err-length.ensures.says) refl)
 
-pub returns-in_default-f3 : goal.returns-in_default-f3
+pub returns-in_err-bare : goal.returns-in_err-bare
 unfolding read_item_fields
-returns-in_default-f3 c =
-    let width = took field_outcome c.read_ranged-f.ensures c.in-Value.is in
-    let long = took field_outcome c.read_ranged-f2.ensures c.in-Value-f2.is in
-    let n = handed field_outcome c.read_ranged-f3.ensures c.in_default-f3.is refl _ c.field_refusal-in_default-f3.ensures in
-    record { says = rw (width.0, long.0, n) refl }
+returns-in_err-bare c =
+    passed_on _ _ _ c.from_residual-in_err-bare.ensures.1
+    (rw (c.in_ok-width.ensures.says.0, c.in_ok-length.ensures.says.0, c.in_err-bare.ensures.says) refl)
 
-pub returns-in_default-f4 : goal.returns-in_default-f4
+pub returns-in_err-iced : goal.returns-in_err-iced
 unfolding read_item_fields
-returns-in_default-f4 c =
-    let width = took field_outcome c.read_ranged-f.ensures c.in-Value.is in
-    let long = took field_outcome c.read_ranged-f2.ensures c.in-Value-f2.is in
-    let bare = took field_outcome c.read_ranged-f3.ensures c.in-Value-f3.is in
-    let n = handed field_outcome c.read_ranged-f4.ensures c.in_default-f4.is refl _ c.field_refusal-in_default-f4.ensures in
-    record { says = rw (width.0, long.0, bare.0, n) refl }
+returns-in_err-iced c =
+    passed_on _ _ _ c.from_residual-in_err-iced.ensures.1
+    (rw (c.in_ok-width.ensures.says.0, c.in_ok-length.ensures.says.0, c.in_ok-bare.ensures.says.0, c.in_err-iced.ensures.says) refl)
 
-pub returns-in_default-f5 : goal.returns-in_default-f5
+pub returns-in_err-position : goal.returns-in_err-position
 unfolding read_item_fields
-returns-in_default-f5 c =
-    let width = took field_outcome c.read_ranged-f.ensures c.in-Value.is in
-    let long = took field_outcome c.read_ranged-f2.ensures c.in-Value-f2.is in
-    let bare = took field_outcome c.read_ranged-f3.ensures c.in-Value-f3.is in
-    let iced = took field_outcome c.read_ranged-f4.ensures c.in-Value-f4.is in
-    let n = handed field_outcome c.read_ranged-f5.ensures c.in_default-f5.is refl _ c.field_refusal-in_default-f5.ensures in
-    record { says = rw (width.0, long.0, bare.0, iced.0, n) refl }
+returns-in_err-position c =
+    passed_on _ _ _ c.from_residual-in_err-position.ensures.1
+    (rw (c.in_ok-width.ensures.says.0, c.in_ok-length.ensures.says.0, c.in_ok-bare.ensures.says.0, c.in_ok-iced.ensures.says.0, c.in_err-position.ensures.says) refl)
 
-pub overflow_cast-bare : goal.overflow_cast-bare
-overflow_cast-bare c =
-    let bare = took field_outcome c.read_ranged-f3.ensures c.in-Value-f3.is in
-    record { fits = omega (arith, ranged-high 2 coefficients 12 _ bare.0) }
+pub overflow_cast-item : goal.overflow_cast-item
+overflow_cast-item c = record { fits = omega (arith, ranged-high 2 coefficients 12 _ c.in_ok-bare.ensures.says.0) }
 
-pub overflow_cast-iced : goal.overflow_cast-iced
-overflow_cast-iced c =
-    let iced = took field_outcome c.read_ranged-f4.ensures c.in-Value-f4.is in
-    record { fits = omega (arith, ranged-high 2 coefficients 12 _ iced.0) }
+pub overflow_cast-item-2 : goal.overflow_cast-item-2
+overflow_cast-item-2 c = record { fits = omega (arith, ranged-high 2 coefficients 12 _ c.in_ok-iced.ensures.says.0) }
 
-pub overflow_cast-position : goal.overflow_cast-position
-overflow_cast-position c =
-    let position = took field_outcome c.read_ranged-f5.ensures c.in-Value-f5.is in
-    record { fits = omega (arith, ranged-high 2 position_factor 12 _ position.0) }
+pub overflow_cast-item-3 : goal.overflow_cast-item-3
+overflow_cast-item-3 c = record { fits = omega (arith, ranged-high 2 position_factor 12 _ c.in_ok-position.ensures.says.0) }
 
 pub returns : goal.returns
 unfolding read_item_fields
 returns c =
-    let width = took field_outcome c.read_ranged-f.ensures c.in-Value.is in
-    let long = took field_outcome c.read_ranged-f2.ensures c.in-Value-f2.is in
-    let bare = took field_outcome c.read_ranged-f3.ensures c.in-Value-f3.is in
-    let iced = took field_outcome c.read_ranged-f4.ensures c.in-Value-f4.is in
-    let position = took field_outcome c.read_ranged-f5.ensures c.in-Value-f5.is in
-    record { says = (rw (width.0, long.0, bare.0, iced.0, position.0) refl, position.1) }
+    let position = c.in_ok-position.ensures.says in
+    record {
+      says = (
+        rw (c.in_ok-width.ensures.says.0, c.in_ok-length.ensures.says.0, c.in_ok-bare.ensures.says.0, c.in_ok-iced.ensures.says.0, position.0) refl,
+        position.1,
+      );
+    }

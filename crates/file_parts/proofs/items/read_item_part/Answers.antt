@@ -1,35 +1,26 @@
-use Rattle.std.proofs.Common.{refl, arith, take}
+use Rattle.std.proofs.Common.{refl}
 use Rattle.model.specs.Ranges.{item_count}
 use Rattle.model.specs.File.{read_items}
-use Rattle.file_fields.specs.Outcomes.{field_outcome}
-use Rattle.file_parts.specs.PartOutcomes.{part_outcome}
+use Rattle.file_fields.proofs.Answered.{onward, onward-no, passed_on, ranged-high}
 use Rattle.file_parts.specs.Parts.{read_item_part}
-use Rattle.file_fields.proofs.Answered.{took, handed, onward, onward-no, ranged-high}
 use Rattle.file_parts.proofs.items.read_item_part.Goals as goal
 
-pub returns-in_default : goal.returns-in_default
+pub returns-in_err-count : goal.returns-in_err-count
 unfolding read_item_part
-returns-in_default c =
-    (record { says = rw (handed field_outcome c.read_ranged-f.ensures c.in_default.is refl _ c.field_refusal.ensures) refl }, omega arith)
+returns-in_err-count c = passed_on _ _ _ c.from_residual.ensures.1 (rw c.in_err-count.ensures.says refl)
 
-pub read_items-read-requires : goal.read_items-read-requires
-read_items-read-requires c =
-    ranged-high 1 item_count 9 _ (took field_outcome c.read_ranged-f.ensures c.in-Value.is).0
+pub read_items-requires : goal.read_items-requires
+read_items-requires c = ranged-high 1 item_count 9 _ c.in_ok-count.ensures.says.0
 
-pub returns-in_default-part : goal.returns-in_default-part
+pub returns-in_err-items : goal.returns-in_err-items
 unfolding read_item_part
-returns-in_default-part c =
-    let held = c.in-Value.held in
-    let count = took field_outcome c.read_ranged-f.ensures c.in-Value.is in
-    let n = onward-no (read_items c.args.sections held) c.args.file.now c.in-Value.at
-    (took (part_outcome (take held c.read_items-read.result.items)) c.read_items-read.ensures c.in_default-part.is) in
-    (rw c.in_default-part.is (record { says = rw (count.0, n) refl }), ranged-high 1 item_count 9 _ count.0)
+returns-in_err-items c =
+    let no = onward-no (read_items c.args.sections c.in_ok-count.count) c.args.file.now c.in_ok-count.at c.in_err-items.ensures in
+    passed_on _ _ _ c.from_residual-in_err-items.ensures.1 (rw (c.in_ok-count.ensures.says.0, no) refl)
 
 pub returns : goal.returns
 unfolding read_item_part
 returns c =
-    let held = c.in-Value.held in
-    let count = took field_outcome c.read_ranged-f.ensures c.in-Value.is in
-    let items = onward (read_items c.args.sections held) c.args.file.now c.in-Value.at count.1 _ _
-    (took (part_outcome (take held c.read_items-read.result.items)) c.read_items-read.ensures c.in-Next.is) in
-    (record { says = (rw count.0 items.0, items.1) }, ranged-high 1 item_count 9 _ count.0)
+    let count = c.in_ok-count.ensures.says in
+    let items = onward (read_items c.args.sections c.in_ok-count.count) c.args.file.now c.in_ok-count.at count.1 c.in_ok-items.ensures in
+    record { says = (rw count.0 items.0, items.1) }

@@ -1,52 +1,65 @@
-use Rattle.std.proofs.Common.{refl, eq-eqb}
-use borrow.Author.Tests.{ne_eqb}
-use Rattle.file_fields.specs.Outcomes.{field_outcome}
+use Rattle.std.proofs.Common.{refl}
+use borrow.Author.Tests.{eq-eqb, ne_eqb}
+use Rattle.file_fields.proofs.Answered.{passed_on}
+use Rattle.file_fields.proofs.Fetched.{field_barred}
 use Rattle.file_parts.specs.Parts.{read_head}
-use Rattle.file_fields.proofs.Answered.{took, handed}
 use Rattle.file_parts.proofs.sections.read_head.Goals as goal
 
-pub returns-in_default : goal.returns-in_default
+pub returns-in_err-width : goal.returns-in_err-width
 unfolding read_head
-returns-in_default c =
-    let n = handed field_outcome c.read_ranged-f.ensures c.in_default.is refl _ c.field_refusal.ensures in
-    record { says = rw (n) refl }
+returns-in_err-width c = passed_on _ _ _ c.from_residual.ensures.1 (rw c.in_err-width.ensures.says refl)
 
-pub returns-in_default-f2 : goal.returns-in_default-f2
+pub returns-in_err-height : goal.returns-in_err-height
 unfolding read_head
-returns-in_default-f2 c =
-    let width = took field_outcome c.read_ranged-f.ensures c.in-Value.is in
-    let n = handed field_outcome c.read_ranged-f2.ensures c.in_default-f2.is refl _ c.field_refusal-in_default-f2.ensures in
-    record { says = rw (width.0, n) refl }
+returns-in_err-height c =
+    passed_on _ _ _ c.from_residual-in_err-height.ensures.1 (rw (c.in_ok-width.ensures.says.0, c.in_err-height.ensures.says) refl)
 
 pub returns-then-height-ne0 : goal.returns-then-height-ne0
 unfolding read_head
 returns-then-height-ne0 c =
-    let width = took field_outcome c.read_ranged-f.ensures c.in-Value.is in
-    let height = took field_outcome c.read_ranged-f2.ensures c.in-Value-f2.is in
-    record { says = rw (width.0, height.0, ne_eqb _ _ c.if-height-ne0.true) refl }
+    record { says = rw (c.in_ok-width.ensures.says.0, c.in_ok-height.ensures.says.0, ne_eqb _ _ c.if-height-ne0.true) refl }
 
-pub returns-in_default-f3 : goal.returns-in_default-f3
+pub returns-in_default : goal.returns-in_default
 unfolding read_head
-returns-in_default-f3 c =
-    let width = took field_outcome c.read_ranged-f.ensures c.in-Value.is in
-    let height = took field_outcome c.read_ranged-f2.ensures c.in-Value-f2.is in
-    let n = handed field_outcome c.read_field-f3.ensures.0 c.in_default-f3.is refl _ c.field_refusal-in_default-f3.ensures in
-    record { says = rw (width.0, height.0, eq-eqb _ _ c.if-height-ne0.false, n) refl }
+returns-in_default c =
+    record {
+      says = rw (
+        c.in_ok-width.ensures.says.0,
+        c.in_ok-height.ensures.says.0,
+        eq-eqb _ _ c.if-height-ne0.false,
+        field_barred 4 c.args.file.now c.in_ok-height.at c.in_default.ensures,
+      )
+          refl;
+    }
 
-pub returns-in_default-f4 : goal.returns-in_default-f4
+pub returns-in_err-count : goal.returns-in_err-count
 unfolding read_head
-returns-in_default-f4 c =
-    let width = took field_outcome c.read_ranged-f.ensures c.in-Value.is in
-    let height = took field_outcome c.read_ranged-f2.ensures c.in-Value-f2.is in
-    let allowance = took field_outcome c.read_field-f3.ensures.0 c.in-Value-f3.is in
-    let n = handed field_outcome c.read_ranged-f4.ensures c.in_default-f4.is refl _ c.field_refusal-in_default-f4.ensures in
-    record { says = rw (width.0, height.0, eq-eqb _ _ c.if-height-ne0.false, allowance.0, n) refl }
+returns-in_err-count c =
+    passed_on _ _ _ c.from_residual-in_err-count.ensures.1
+    (rw (
+      c.in_ok-width.ensures.says.0,
+      c.in_ok-height.ensures.says.0,
+      eq-eqb _ _ c.if-height-ne0.false,
+      c.in-Ok.ensures.0.says.0,
+      c.in_err-count.ensures.says,
+    )
+    refl)
 
 pub returns : goal.returns
 unfolding read_head
 returns c =
-    let width = took field_outcome c.read_ranged-f.ensures c.in-Value.is in
-    let height = took field_outcome c.read_ranged-f2.ensures c.in-Value-f2.is in
-    let allowance = took field_outcome c.read_field-f3.ensures.0 c.in-Value-f3.is in
-    let count = took field_outcome c.read_ranged-f4.ensures c.in-Value-f4.is in
-    record { says = (rw (width.0, height.0, eq-eqb _ _ c.if-height-ne0.false, allowance.0, count.0) refl, count.1) }
+    let count = c.in_ok-count.ensures.says in
+    record {
+      says = (
+        rw (
+          c.in_ok-width.ensures.says.0,
+          c.in_ok-height.ensures.says.0,
+          eq-eqb _ _ c.if-height-ne0.false,
+          c.in-Ok.ensures.0.says.0,
+          count.0,
+          c.from.ensures,
+        )
+            refl,
+        count.1,
+      );
+    }

@@ -1,0 +1,72 @@
+// Parts of one kind, one behind another.
+ghost use Rattle.std.specs.Prelude.{ℕ, List, [], ◌≤◌, length, map};
+ghost use Rattle.model.specs.Lists.{joined};
+ghost use Rattle.model.specs.Reading.{Parsed, many};
+ghost use Rattle.model.specs.Bytes.{bytes};
+ghost use Rattle.file_fields.specs.Outcomes.{ReadsAs};
+ghost use Rattle.file_fields.specs.Written.{Puts};
+
+use arrayvec::ArrayVec;
+use file_fields::Parsed;
+use file_fields::fields::write_field;
+
+// What is read from the bytes that remain. A program's value may stand for one of another type.
+pub trait FromBytes {
+    ghost Value: { Type 0 };
+
+    ghost value_of: { Self → Value };
+
+    ghost reading: { List ℕ → Parsed Value };
+
+    fn read(file: &[u8]) -> Parsed<Self>
+        ensures { ReadsAs value_of file.now (reading file.now) result };
+}
+
+// So many parts, in the file's order.
+pub fn read_each<T: FromBytes + Default + Drop, const N: usize>(
+    file: &[u8],
+    count: usize,
+) -> Parsed<ArrayVec<T, N>>
+    requires { count ≤ N }
+    ensures { ReadsAs (λ parts. map T.value_of parts.items) file.now (many (λ earlier. T.reading) count [] file.now) result }
+{
+    let mut parts = ArrayVec::new();
+    let mut at = 0;
+    for _ in 0..count {
+        let (part, used) = T::read(&file[at..])?;
+        parts.push(part);
+        at += used;
+    }
+    Ok((parts, at))
+}
+
+// What is written as bytes of its own.
+pub trait ToBytes {
+    ghost bytes_of: { Self → List ℕ };
+
+    // Puts its bytes at the start of out and answers how many they are.
+    fn write(&self, out: &mut [u8]) -> usize
+        requires { length (bytes_of self.now) ≤ length out.old }
+        ensures { Puts (bytes_of self.now) out.old out.new result };
+}
+
+pub fn write_each<T: ToBytes>(out: &mut [u8], parts: &[T]) -> usize
+    requires { length (joined T.bytes_of parts.now) ≤ length out.old }
+    ensures { Puts (joined T.bytes_of parts.now) out.old out.new result }
+{
+    let mut at = 0;
+    for part in parts {
+        at += part.write(&mut out[at..]);
+    }
+    at
+}
+
+// A number of a row, in all its bytes.
+impl ToBytes for u64 {
+    ghost bytes_of = { bytes 8 };
+
+    #[tactic(auto, unfolding(model::specs::Bytes::bytes))]
+    fn write(&self, out: &mut [u8]) -> usize {
+        write_field(out, 8, *self)
+    }
+}
