@@ -1,13 +1,14 @@
 // A line of text as a request: which it is, and its arguments.
 #![tactic(auto)]
 
-use replies::Fault;
-
+mod faults;
 pub mod line;
 mod words;
 
+pub use faults::Fault;
+
 // The requests whose arguments are numbers.
-#[derive(Clone, Copy)]
+#[derive(Clone, Copy, Debug, PartialEq, Eq)]
 pub enum Verb {
     Hang,
     TakeDown,
@@ -18,18 +19,16 @@ pub enum Verb {
     Help,
 }
 
-// The first word of a line.
-#[derive(Clone, Copy)]
+// The first word of a request.
+#[derive(Clone, Copy, Debug, PartialEq, Eq)]
 pub(crate) enum Word {
     Numbered(Verb),
     Erect,
-    Unknown,
 }
 
-// A request with so many numbers, an erect with a file of so many bytes, or what is wrong with the line.
-#[derive(Clone, Copy)]
-pub enum Request {
-    Numbered(Verb, usize),
-    Erect(usize),
-    Wrong(Fault),
+// A request with its numbers, or an erect with the bytes of its file.
+#[derive(Clone, Copy, Debug, PartialEq, Eq)]
+pub enum Request<'n, 'f> {
+    Numbered(Verb, &'n [u64]),
+    Erect(&'f [u8]),
 }

@@ -1,80 +1,78 @@
 // A whole line. The numbers of a request are put at the start of `numbers`, the bytes of an erect at the start of `file`.
-ghost use Rattle.std.specs.Prelude.{length};
-ghost use Rattle.requests.specs.Asked.{numbers_text, erect_text, asked_alone, asked_text, asked_in};
-ghost use Rattle.requests.specs.Decoded.{Decoded, DecodedNumbers, DecodedBytes, DecodedAny};
+ghost use Rattle.std.specs.Prelude.{◌≡◌, length};
+ghost use Rattle.std.specs.Option.{option_copied};
+ghost use Rattle.requests.specs.Asked.{Room, asked_alone, asked_text, asked_in};
+ghost use Rattle.requests.specs.Words.{space_in, first_word, rest_of};
+ghost use Rattle.requests.specs.Decoded.{asked_of, Decoded};
 
 use crate::words::word_of;
-use crate::{Request, Verb, Word};
+use crate::{Fault, Request, Word};
 use lines::hex::read_hex;
 use lines::numbers::numbers_of;
-use lines::scan::find;
-use lines::{Count, HexCount};
-use replies::Fault;
 
 // The bytes of the longest request: an erect with 3000 bytes.
 pub const LONGEST: usize = 6006;
 
-// The text of a request's numbers.
-fn read_numbers(verb: Verb, text: &[u8], numbers: &mut [u64]) -> Request
-    ensures { DecodedNumbers (λ room. numbers_text room verb text.now) (length numbers.old) numbers.new result }
+fn space_in(line: &[u8]) -> Option<usize>
+    ensures { result ≡ space_in line.now }
 {
-    let count = numbers_of(text, numbers);
-    match count {
-        Count::Of(n) => Request::Numbered(verb, n),
-        Count::Bad => Request::Wrong(Fault::NotDecimal),
-        Count::Large => Request::Wrong(Fault::TooLarge),
-        Count::Many => Request::Wrong(Fault::ManyWords),
-    }
+    line.iter().position(|b| *b == b' ')
 }
 
-// The text of a file's bytes.
-fn read_bytes(text: &[u8], file: &mut [u8]) -> Request
-    ensures { DecodedBytes (λ room. erect_text room text.now) (length file.old) file.new result }
+// The first word, and what follows the space after it.
+fn split_word(line: &[u8]) -> (&[u8], Option<&[u8]>)
+    ensures word { result.0.now ≡ first_word line.now }
+    ensures rest { option_copied result.1 ≡ rest_of line.now }
 {
-    let count = read_hex(text, file);
-    match count {
-        HexCount::Of(n) => Request::Erect(n),
-        HexCount::Bad => Request::Wrong(Fault::NotHex),
-        HexCount::Many => Request::Wrong(Fault::LongLine),
+    match space_in(line) {
+        Some(end) => (&line[..end], Some(&line[end + 1..])),
+        None => (line, None),
     }
 }
 
 // A word alone.
-fn read_word(word: Word) -> Request
-    ensures { DecodedAny (λ room. asked_alone room word) result }
+#[tactic(auto, unfolding(crate::specs::Asked::asked_alone))]
+fn read_word<'n, 'f>(word: Word) -> Request<'n, 'f>
+    ensures { (room : Room) → asked_of room (Ok result) ≡ asked_alone room word }
 {
     match word {
-        Word::Numbered(v) => Request::Numbered(v, 0),
-        Word::Erect => Request::Erect(0),
-        Word::Unknown => Request::Wrong(Fault::NoRequest),
+        Word::Numbered(verb) => Request::Numbered(verb, &[]),
+        Word::Erect => Request::Erect(&[]),
     }
 }
 
 // A word and what follows the space after it.
-fn read_text(word: Word, text: &[u8], numbers: &mut [u64], file: &mut [u8]) -> Request
-    ensures { Decoded (λ room. asked_text room word text.now) (length numbers.old) (length file.old)
-        numbers.new file.new result }
+#[tactic(auto, unfolding(crate::specs::Asked::asked_text, crate::specs::Asked::numbers_text, crate::specs::Asked::erect_text))]
+fn read_text<'n, 'f>(
+    word: Word,
+    text: &[u8],
+    numbers: &'n mut [u64],
+    file: &'f mut [u8],
+) -> Result<Request<'n, 'f>, Fault>
+    ensures { Decoded (λ room. asked_text room word text.now) (length numbers.old) (length file.old) result }
 {
     match word {
-        Word::Numbered(v) => read_numbers(v, text, numbers),
-        Word::Erect => read_bytes(text, file),
-        Word::Unknown => Request::Wrong(Fault::NoRequest),
+        Word::Numbered(verb) => Ok(Request::Numbered(verb, numbers_of(text, numbers)?)),
+        Word::Erect => Ok(Request::Erect(read_hex(text, file)?)),
     }
 }
 
 // A line, without its end.
-pub fn read_line(line: &[u8], numbers: &mut [u64], file: &mut [u8]) -> Request
-    ensures { Decoded (λ room. asked_in room line.now) (length numbers.old) (length file.old)
-        numbers.new file.new result }
+#[tactic(auto, unfolding(crate::specs::Asked::asked_in))]
+pub fn read_line<'n, 'f>(
+    line: &[u8],
+    numbers: &'n mut [u64],
+    file: &'f mut [u8],
+) -> Result<Request<'n, 'f>, Fault>
+    ensures { Decoded (λ room. asked_in room line.now) (length numbers.old) (length file.old) result }
 {
     if LONGEST < line.len() {
-        return Request::Wrong(Fault::LongLine);
+        return Err(Fault::LongLine);
     }
-    let end = find(line, 0, line.len(), b' ');
-    let word = word_of(&line[0..end]);
-    if line.len() <= end {
-        return read_word(word);
+    let (word, rest) = split_word(line);
+    let word = word_of(word).ok_or(Fault::NoRequest)?;
+    match rest {
+        Some(text) => read_text(word, text, numbers, file),
+        None => Ok(read_word(word)),
     }
-    let next = end + 1;
-    read_text(word, &line[next..], numbers, file)
 }

@@ -3,34 +3,19 @@ ghost use Rattle.std.specs.Prelude.{◌≡◌};
 ghost use Rattle.requests.specs.Words.{word_of};
 
 use crate::{Verb, Word};
-use lines::scan::same;
 
-pub(crate) fn word_of(word: &[u8]) -> Word
+pub(crate) fn word_of(word: &[u8]) -> Option<Word>
     ensures { result ≡ word_of word.now }
 {
-    if same(word, b"hang") {
-        return Word::Numbered(Verb::Hang);
+    match word {
+        b"hang" => Some(Word::Numbered(Verb::Hang)),
+        b"takedown" => Some(Word::Numbered(Verb::TakeDown)),
+        b"report" => Some(Word::Numbered(Verb::Report)),
+        b"check" => Some(Word::Numbered(Verb::Check)),
+        b"wind" => Some(Word::Numbered(Verb::Wind)),
+        b"erect" => Some(Word::Erect),
+        b"write" => Some(Word::Numbered(Verb::Write)),
+        b"help" => Some(Word::Numbered(Verb::Help)),
+        _ => None,
     }
-    if same(word, b"takedown") {
-        return Word::Numbered(Verb::TakeDown);
-    }
-    if same(word, b"report") {
-        return Word::Numbered(Verb::Report);
-    }
-    if same(word, b"check") {
-        return Word::Numbered(Verb::Check);
-    }
-    if same(word, b"wind") {
-        return Word::Numbered(Verb::Wind);
-    }
-    if same(word, b"erect") {
-        return Word::Erect;
-    }
-    if same(word, b"write") {
-        return Word::Numbered(Verb::Write);
-    }
-    if same(word, b"help") {
-        return Word::Numbered(Verb::Help);
-    }
-    Word::Unknown
 }
