@@ -40,8 +40,8 @@ pairs [] = Some []
 pairs (digit ∷ []) = None
 pairs (high ∷ (low ∷ s)) = with_first (pair_value high low) (pairs s)
 
--- the bytes of a text, or what is wrong with it: there is no room for so many bytes, a digit has no second one or a byte
--- is no digit
+-- the bytes of a text, or what is wrong with it: there is no room for so many bytes, a digit has no second one or a
+-- byte is no digit
 abbrev pub bytes_in : ℕ → List ℕ → Result (List ℕ) HexError
 bytes_in room s =
     if length s % 2 == 1 then Err Bad

@@ -1,38 +1,40 @@
 -- The text of a message has at most 8192 bytes.
-use Prim.Native.Nat.{ℕ, zero, suc, ◌+◌, ◌*◌, ◌^◌, ◌≤◌, ◌<◌}
-use mathlib.Core.List.{List, [], ◌∷◌}
-use native.Mathlib.Omega.{arith}
-use lib.Dec.{lit<, lit≤}
-use lib.ListN.{length, get_or, take, drop, length-append, length-take}
-use lib.Seq.{get_or-drop}
+use Rattle.std.proofs.Common.{◌≡◌, ℕ, zero, suc, ◌+◌, ◌*◌, ◌/◌, ◌^◌, ◌≤◌, ◌<◌, List, [], ◌∷◌, length, get_or, take, drop, Some, None, Result, Ok, Err, arith, lit<, lit≤, length-append, get_or-drop}
+use Rattle.std.specs.Prelude.{decimal}
+use Rattle.std.specs.Borrow.{Bor}
+use Rattle.std.proofs.lemmas.Fmt.{length-decimal-le}
 use Rattle.model.specs.Answers.{refusal_number}
 use Rattle.model.proofs.Says.{refusal-highest}
-use Rattle.lines.specs.Text.{decimal}
-use Rattle.lines.proofs.Decimals.{decimal-short}
 use Rattle.lines.proofs.Hexes.{hex-length}
+use Rattle.requests.specs.declared.faults.Fault.{Fault}
+use Rattle.requests.specs.declared.faults.Fault.TheVariants as fault
 use Rattle.replies.specs.Help.{help_text}
 use Rattle.replies.specs.MessageText.{fault_text, row_text, rows_text, message_text}
-use Rattle.replies.specs.declared.Fault.{Fault}
-use Rattle.replies.specs.declared.Fault.TheVariants as fault
-use Rattle.replies.specs.declared.Message.{Message}
-use Rattle.replies.specs.declared.Message.TheVariants as message
+use Rattle.replies.specs.declared.Reply.{Reply}
+use Rattle.replies.specs.declared.Reply.TheVariants.{Done, Rows, Over, File, Help}
+use Rattle.replies.specs.declared.Rejection.{Rejection}
+use Rattle.replies.specs.declared.Rejection.TheVariants.{Wrong, Refused}
 
--- at most 32 rows, the most a tower has sections, and a file of at most 3000 bytes
-abbrev pub Moderate : Message → Type 0
-Moderate message.Done = Unit {0}
-Moderate (message.Refused e) = Unit {0}
-Moderate (message.Rows n) = n ≤ 32
-Moderate (message.Over i) = i < 2 ^ 64
-Moderate message.NoneOver = Unit {0}
-Moderate (message.File n) = n ≤ 3000
-Moderate message.Help = Unit {0}
-Moderate (message.Wrong f) = Unit {0}
+-- at most 32 rows, the most a tower has sections, of 64-bit numbers, and a file of at most 3000 bytes
+pub record FewRows (rows : List ℕ) : Type 0 where
+  pub words : (i : ℕ) → get_or rows i 0 < 2 ^ 64
+  pub most : length rows / 6 ≤ 32
 
-pub largest-moderate : Moderate (message.Rows 32) × Moderate (message.Over 31) × Moderate (message.File 3000)
-largest-moderate = (lit≤ tt, lit< tt, lit≤ tt)
+abbrev pub Moderate : Result Reply Rejection → Type 0
+Moderate (Ok Done) = Unit {0}
+Moderate (Ok (Rows rows)) = FewRows rows.now
+Moderate (Ok (Over (Some i))) = i < 2 ^ 64
+Moderate (Ok (Over None)) = Unit {0}
+Moderate (Ok (File file)) = length file.now ≤ 3000
+Moderate (Ok Help) = Unit {0}
+Moderate (Err e) = Unit {0}
+
+pub largest-moderate : (rows file : Bor (List ℕ)) → ((i : ℕ) → get_or rows.now i 0 < 2 ^ 64) → length rows.now ≡ 192 → length file.now ≡ 3000
+    → Moderate (Ok (Rows rows)) × Moderate (Ok (Over (Some 31))) × Moderate (Ok (File file))
+largest-moderate rows file h k l = (record { words = h; most = omega arith }, lit< tt, omega arith)
 
 word-short : (n : ℕ) → n < 2 ^ 64 → length (decimal n) ≤ 20
-word-short n h = decimal-short n 19 (omega arith)
+word-short n h = length-decimal-le 20 n (omega arith) (omega arith) h
 
 row_cons : (n : ℕ) (row : List ℕ) → length (row_text (n ∷ row)) ≤ length (decimal n) + 1 + length (row_text row)
 unfolding row_text
@@ -66,20 +68,20 @@ help-short : length help_text ≤ 8192
 unfolding help_text
 help-short = lit≤ tt
 
-pub message-short : (rows file : List ℕ) (r : Message) → ((i : ℕ) → get_or rows i 0 < 2 ^ 64) → Moderate r → length (message_text rows file r) ≤ 8192
+pub message-short : (r : Result Reply Rejection) → Moderate r → length (message_text r) ≤ 8192
 unfolding message_text
-message-short rows file message.Done h g = lit≤ tt
-message-short rows file (message.Refused e) h g =
+message-short (Ok Done) h = lit≤ tt
+message-short (Ok (Rows rows)) h =
+    let n = length rows.now / 6 in
+    let d : length (decimal n) ≤ 20 = word-short n (omega (arith, h.most)) in
+    simp length-append (omega (arith, h.most, rows_short n rows.now h.words))
+message-short (Ok (Over (Some i))) h =
+    let d : length (decimal i) ≤ 20 = word-short i h in
+    simp length-append (omega arith)
+message-short (Ok (Over None)) h = lit≤ tt
+message-short (Ok (File file)) h = simp (length-append, hex-length) (omega arith)
+message-short (Ok Help) h = help-short
+message-short (Err (Wrong f)) h = simp length-append (omega (arith, fault-short f))
+message-short (Err (Refused e)) h =
     let d : length (decimal (refusal_number e)) ≤ 20 = word-short _ (omega (arith, refusal-highest e)) in
     simp length-append (omega arith)
-message-short rows file (message.Rows n) h g =
-    let d : length (decimal n) ≤ 20 = word-short n (omega arith) in
-    simp length-append (omega (arith, rows_short n rows h))
-message-short rows file (message.Over i) h g =
-    let d : length (decimal i) ≤ 20 = word-short i g in
-    simp length-append (omega arith)
-message-short rows file message.NoneOver h g = lit≤ tt
-message-short rows file (message.File n) h g =
-    simp (length-append, hex-length, length-take) (omega arith)
-message-short rows file message.Help h g = help-short
-message-short rows file (message.Wrong f) h g = simp length-append (omega (arith, fault-short f))

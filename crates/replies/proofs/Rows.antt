@@ -1,14 +1,14 @@
--- A row that is put number by number, and rows one after the other; the rows alone count, whatever follows them; a row reads back.
-use Prim.Native.Nat.{ℕ, zero, suc, ◌+◌, ◌-◌, ◌*◌, ◌^◌, ◌≤◌, ◌<◌}
-use mathlib.Core.Path.{◌≡◌, refl}
-use mathlib.Core.List.{List, [], ◌∷◌, ◌++◌, append_assoc, append-nil}
-use native.Mathlib.Omega.{arith}
-use native.Mathlib.Numerals.{add-one}
-use lib.ListN.{length, get_or, take, drop, length-append, length-drop}
-use lib.Seq.{take-suc, take_all, drop-drop, take-append-le, drop-append-le}
-use Rattle.lines.specs.Text.{Puts, decimal, spaced}
+-- A row that is put number by number, and rows one after the other; the rows alone count, whatever follows them; a row
+-- reads back.
+use Rattle.std.proofs.Common.{◌≡◌, ℕ, zero, suc, ◌+◌, ◌-◌, ◌*◌, ◌/◌, ◌^◌, ◌≤◌, ◌<◌, List, [], ◌∷◌, ◌++◌, length, get_or, take, drop, refl, append_assoc, append-nil, arith, length-append, length-drop}
+use Rattle.std.specs.Prelude.{decimal}
+use Rattle.std.proofs.lemmas.List.{take_more, take-append-le, take_at, drop_at}
+use Rattle.std.proofs.Math.Seq.{drop-append-le}
+use Rattle.lines.specs.declared.text.Text.{Text}
+use Rattle.lines.specs.Text.{spaced}
+use Rattle.lines.specs.Appends.{Appends}
+use Rattle.lines.proofs.Putting.{appends_none, appends_both}
 use Rattle.lines.specs.Numbers.{inside, read_to}
-use Rattle.lines.proofs.Putting.{puts_none, puts-both}
 use Rattle.lines.proofs.ReadBack.{read_first, numbers-back}
 use Rattle.replies.specs.MessageText.{row_text, rows_text}
 
@@ -17,35 +17,52 @@ unfolding spaced
 spaced-append [] ms = refl
 spaced-append (n ∷ ns) ms = rw (spaced-append ns ms, append_assoc)
 
-row_of : (ns : List ℕ) (n : ℕ) → row_text (ns ++ (n ∷ [])) ≡ spaced ns ++ (decimal n ++ (10 ∷ []))
+-- one number more
+pub spaced_more : (row : List ℕ) (i : ℕ) → i < length row → spaced (take (i + 1) row) ≡ spaced (take i row) ++ (decimal (get_or row i 0) ++ (32 ∷ []))
+unfolding spaced
+spaced_more row i h = rw (take_more row i 0 h, spaced-append)
+
+pub row_none : (ns : List ℕ) → length ns ≡ 0 → row_text ns ≡ 10 ∷ []
+unfolding row_text
+row_none [] h = refl
+row_none (n ∷ ns) h = absurd (omega arith)
+
+pub row_of : (ns : List ℕ) (n : ℕ) → row_text (ns ++ (n ∷ [])) ≡ spaced ns ++ (decimal n ++ (10 ∷ []))
 unfolding spaced row_text
 row_of [] n = refl
 row_of (m ∷ []) n = rw append_assoc
 row_of (m ∷ (k ∷ ns)) n = rw (row_of (k ∷ ns) n) (simp append_assoc)
 
-pub row-none : (before : List ℕ) (at : ℕ) → at ≤ length before → Puts (spaced []) before at before at
-unfolding spaced
-row-none = puts_none
+-- rows are put, and `rest` is left
+pub record RowsPut (rows rest : List ℕ) (old new : Text) : Type 0 where
+  pub done : List ℕ
+  pub put : Appends done old new
+  pub left : rows_text (length rows / 6) rows ≡ done ++ rows_text (length rest / 6) rest
 
-module _ (row before : List ℕ) (at : ℕ) where
-  module _ {after last : List ℕ} {p r : ℕ} (i : ℕ) (h : i < length row) (a : Puts (spaced (take i row)) before at after p) where
-    -- a number that is not the last
-    pub row_more : Puts (decimal (get_or row i 0) ++ (32 ∷ [])) after p last r → Puts (spaced (take (i + 1) row)) before at last r
-    unfolding spaced
-    row_more b = rw (add-one i, take-suc row i 0 h, spaced-append) (puts-both a b)
+pub no_rows : (rows : List ℕ) (text : Text) → RowsPut rows rows text text
+no_rows rows text = record { done = []; put = appends_none text; left = refl }
 
-    -- the last
-    pub row_last : length row ≤ suc i → Puts (decimal (get_or row i 0) ++ (10 ∷ [])) after p last r → Puts (row_text row) before at last r
-    row_last g b =
-        let e : row ≡ take i row ++ (get_or row i 0 ∷ []) = rw (take_all _ _ g) at (take-suc row i 0 h) in
-        rw (e, row_of) (puts-both a b)
-
-rows-suc : (i : ℕ) (rows : List ℕ) → rows_text (suc i) rows ≡ rows_text i rows ++ row_text (take 6 (drop (6 * i) rows))
+rows_more : (row rest : List ℕ) → length row ≡ 6
+    → rows_text (length (row ++ rest) / 6) (row ++ rest) ≡ row_text row ++ rows_text (length rest / 6) rest
 unfolding rows_text
-rows-suc zero rows = rw append-nil
-rows-suc (suc i) rows =
-    let e : 6 * suc i ≡ 6 + 6 * i = omega arith in
-    rw (rows-suc i (drop 6 rows), drop-drop, e, append_assoc)
+rows_more row rest six =
+    let n : length (row ++ rest) / 6 ≡ suc (length rest / 6) = omega (arith, length-append row rest) in
+    rw (n, take_at row rest 6 six, drop_at row rest 6 six)
+
+pub row_put : {rows : List ℕ} (row : List ℕ) {rest : List ℕ} {old text new : Text} → RowsPut rows (row ++ rest) old text → length row ≡ 6
+    → Appends (row_text row) text new → RowsPut rows rest old new
+row_put row {rest} p six a =
+    record {
+      done = p.done ++ row_text row;
+      put = appends_both p.put a;
+      left = rw (p.left, rows_more row rest six, append_assoc);
+    }
+
+pub all_rows : {rows rest : List ℕ} {old new : Text} → RowsPut rows rest old new → length rest < 6 → Appends (rows_text (length rows / 6) rows) old new
+unfolding rows_text
+all_rows {rest = rest} p h =
+    let z : length rest / 6 ≡ 0 = omega arith in
+    rw (p.left, z, append-nil) p.put
 
 -- numbers behind those of the rows
 pub rows-first : (n : ℕ) (rows more : List ℕ) → 6 * n ≤ length rows → rows_text n (rows ++ more) ≡ rows_text n rows
@@ -55,15 +72,6 @@ rows-first (suc n) rows more h =
     let six : 6 ≤ length rows = omega arith in
     let left : 6 * n ≤ length (drop 6 rows) = omega (arith, length-drop 6 rows) in
     rw (take-append-le 6 rows more six, drop-append-le 6 rows more six, rows-first n (drop 6 rows) more left)
-
-module _ (rows before : List ℕ) (at : ℕ) where
-  pub rows_none : at ≤ length before → Puts (rows_text 0 rows) before at before at
-  unfolding rows_text
-  rows_none = puts_none before at
-
-  pub rows_more : {after last : List ℕ} {p r : ℕ} (i : ℕ) → Puts (rows_text i rows) before at after p
-      → Puts (row_text (take 6 (drop (6 * i) rows))) after p last r → Puts (rows_text (i + 1) rows) before at last r
-  rows_more i a b = rw (add-one i, rows-suc) (puts-both a b)
 
 -- a row, without its line end, reads back
 pub row_back : (room : ℕ) (ns : List ℕ) (n : ℕ) → ((i : ℕ) → get_or ns i 0 < 10 ^ 19) → n < 10 ^ 19 → length ns < room

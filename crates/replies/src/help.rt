@@ -1,13 +1,14 @@
 // What the requests are.
-ghost use Rattle.lines.specs.Text.{Puts};
+ghost use Rattle.lines.specs.Appends.{Appends};
 ghost use Rattle.replies.specs.Help.{help_text};
 
-use lines::text::put_bytes;
+use lines::text::Text;
 
-pub(crate) fn put_help(out: &mut [u8]) -> usize
-    ensures { Puts help_text out.old 0 out.new result }
+#[tactic(auto, unfolding(crate::specs::Help::help_text))]
+pub(crate) fn put_help(text: &mut Text<'_>)
+    ensures { Appends help_text text.old text.new }
 {
-    let text =
+    text.push_all(
         b"A request is a line: words apart by single spaces, numbers in decimal, bytes in hexadecimal.
   erect HEX         replaces everything by the tower of this file; answers ok
   hang NUMBER SECTION WIDTH LENGTH BARE ICED K
@@ -25,6 +26,6 @@ pub(crate) fn put_help(out: &mut [u8]) -> usize
 ROOM: how many numbers (192 at most) or bytes (3000 at most) may be filled; without it, all.
 refused N: turned down by rule N of document 01, as listed in include/dembyhai.h; nothing changed.
 error: the line is no request, and what is wrong with it; nothing changed.
-";
-    put_bytes(out, 0, text)
+",
+    );
 }

@@ -1,101 +1,102 @@
 // The text of a message.
-ghost use Rattle.std.specs.Prelude.{◌*◌, ◌≤◌, ◌<◌, length};
-ghost use Rattle.model.specs.Answers.{refusal_number};
+ghost use Rattle.std.specs.Prelude.{◌≡◌, ◌/◌, length};
 ghost use Rattle.lines.specs.Text.{Puts};
-ghost use Rattle.replies.specs.MessageText.{fault_text, row_text, rows_text, refused_text, count_text, file_text, error_text, message_text, Within};
+ghost use Rattle.lines.specs.Appends.{Appends};
+ghost use Rattle.replies.specs.MessageText.{fault_text, row_text, rows_text, count_text, reply_text, rejection_text, message_text};
 
 use crate::help::put_help;
-use crate::{Fault, Message};
-use lines::hex::put_hex;
-use lines::text::{put, put_bytes, put_number};
-use model::Refusal;
-use model::numbers::refusal_number;
+use crate::{Message, Rejection, Reply};
+use lines::text::Text;
+use requests::Fault;
 
-fn put_error(out: &mut [u8], why: &[u8]) -> usize
-    ensures { Puts (error_text why.now) out.old 0 out.new result }
+fn fault_text(fault: Fault) -> &'static [u8]
+    ensures { result.now ≡ fault_text fault }
 {
-    let at = put_bytes(out, 0, b"error ");
-    let at = put_bytes(out, at, why);
-    put(out, at, b'\n')
-}
-
-fn put_fault(out: &mut [u8], f: Fault) -> usize
-    ensures { Puts (error_text (fault_text f)) out.old 0 out.new result }
-{
-    match f {
-        Fault::NoRequest => put_error(out, b"unknown request, try help"),
-        Fault::FewWords => put_error(out, b"too few words"),
-        Fault::ManyWords => put_error(out, b"too many words"),
-        Fault::NotDecimal => put_error(out, b"not a decimal number"),
-        Fault::TooLarge => put_error(out, b"number too large"),
-        Fault::NotHex => put_error(out, b"not hexadecimal"),
-        Fault::LongLine => put_error(out, b"line too long"),
+    match fault {
+        Fault::NoRequest => b"unknown request, try help",
+        Fault::FewWords => b"too few words",
+        Fault::ManyWords => b"too many words",
+        Fault::NotDecimal => b"not a decimal number",
+        Fault::TooLarge => b"number too large",
+        Fault::NotHex => b"not hexadecimal",
+        Fault::LongLine => b"line too long",
     }
 }
 
-fn put_refused(out: &mut [u8], e: Refusal) -> usize
-    ensures { Puts (refused_text (refusal_number e)) out.old 0 out.new result }
+fn put_count(text: &mut Text<'_>, n: usize)
+    ensures { Appends (count_text n) text.old text.new }
 {
-    let at = put_bytes(out, 0, b"refused ");
-    put_number(out, at, refusal_number(e) as u64, b'\n')
+    text.push_all(b"ok ");
+    text.push_decimal(n as u64);
+    text.push(b'\n');
 }
 
-fn put_count(out: &mut [u8], n: usize) -> usize
-    ensures { Puts (count_text n) out.old 0 out.new result }
+fn put_row(text: &mut Text<'_>, row: &[u64])
+    ensures { Appends (row_text row.now) text.old text.new }
 {
-    let at = put_bytes(out, 0, b"ok ");
-    put_number(out, at, n as u64, b'\n')
-}
-
-fn put_row(out: &mut [u8], at: usize, row: &[u64]) -> usize
-    requires { (at ≤ length out.old) × (0 < length row.now) }
-    ensures { Puts (row_text row.now) out.old at out.new result }
-{
-    let last = row.len() - 1;
-    let mut p = at;
-    for i in 0usize..last {
-        p = put_number(out, p, row[i], b' ');
+    if let Some((last, front)) = row.split_last() {
+        for n in front {
+            text.push_decimal(*n);
+            text.push(b' ');
+        }
+        text.push_decimal(*last);
     }
-    put_number(out, p, row[last], b'\n')
+    text.push(b'\n');
 }
 
-fn put_rows(out: &mut [u8], at: usize, rows: &[u64], count: usize) -> usize
-    requires { (at ≤ length out.old) × (6 * count ≤ length rows.now) }
-    ensures { Puts (rows_text count rows.now) out.old at out.new result }
+fn put_rows(text: &mut Text<'_>, rows: &[u64])
+    ensures { Appends (rows_text (length rows.now / 6) rows.now) text.old text.new }
 {
-    let mut p = at;
-    for i in 0usize..count {
-        let start = 6 * i;
-        let end = start + 6;
-        p = put_row(out, p, &rows[start..end]);
+    for row in rows.chunks_exact(6) {
+        put_row(text, row);
     }
-    p
 }
 
-fn put_file(out: &mut [u8], file: &[u8]) -> usize
-    ensures { Puts (file_text file.now) out.old 0 out.new result }
+fn put_reply(text: &mut Text<'_>, reply: Reply<'_>)
+    ensures { Appends (reply_text reply.entry) text.old text.new }
 {
-    let at = put_bytes(out, 0, b"ok ");
-    let at = put_hex(out, at, file);
-    put(out, at, b'\n')
+    match reply {
+        Reply::Done => text.push_all(b"ok\n"),
+        Reply::Rows(rows) => {
+            put_count(text, rows.len() / 6);
+            put_rows(text, rows);
+        }
+        Reply::Over(Some(section)) => put_count(text, section),
+        Reply::Over(None) => text.push_all(b"ok none\n"),
+        Reply::File(bytes) => {
+            text.push_all(b"ok ");
+            text.push_hex(bytes);
+            text.push(b'\n');
+        }
+        Reply::Help => put_help(text),
+    }
+}
+
+fn put_rejection(text: &mut Text<'_>, rejection: Rejection)
+    ensures { Appends (rejection_text rejection) text.old text.new }
+{
+    match rejection {
+        Rejection::Wrong(fault) => {
+            text.push_all(b"error ");
+            text.push_all(fault_text(fault));
+        }
+        Rejection::Refused(refusal) => {
+            text.push_all(b"refused ");
+            text.push_decimal(u64::from(u32::from(refusal)));
+        }
+    }
+    text.push(b'\n');
 }
 
 // Puts a message at the start of out, as far as out reaches, and answers its length.
-pub fn put_message(out: &mut [u8], m: Message, rows: &[u64], file: &[u8]) -> usize
-    requires { Within rows.now file.now m }
-    ensures { Puts (message_text rows.now file.now m) out.old 0 out.new result }
+#[tactic(auto, unfolding(crate::specs::MessageText::message_text))]
+pub fn put_message(out: &mut [u8], message: Message<'_>) -> usize
+    ensures { Puts (message_text message.entry) out.old 0 out.new result }
 {
-    match m {
-        Message::Done => put_bytes(out, 0, b"ok\n"),
-        Message::Refused(e) => put_refused(out, e),
-        Message::Rows(n) => {
-            let at = put_count(out, n);
-            put_rows(out, at, rows, n)
-        }
-        Message::Over(i) => put_count(out, i),
-        Message::NoneOver => put_bytes(out, 0, b"ok none\n"),
-        Message::File(n) => put_file(out, &file[..n]),
-        Message::Help => put_help(out),
-        Message::Wrong(f) => put_fault(out, f),
+    let mut text = Text::new(out);
+    match message {
+        Ok(reply) => put_reply(&mut text, reply),
+        Err(rejection) => put_rejection(&mut text, rejection),
     }
+    text.len()
 }

@@ -16,7 +16,8 @@ use Rattle.requests.specs.declared.Word.TheVariants as word
 use Rattle.requests.specs.Faults.{numbers_fault, hex_fault}
 use Rattle.requests.specs.Words.{first_word, rest_of, word_of}
 
--- one of erect, hang, take down, wind and check; a report or a write into so many lent elements; help; or that something is wrong
+-- one of erect, hang, take down, wind and check; a report or a write into so many lent elements; help; or that
+-- something is wrong
 pub data Asked : Type 0 where
   called : Call → Asked
   reported : ℕ → Asked

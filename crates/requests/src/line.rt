@@ -1,4 +1,5 @@
-// A whole line. The numbers of a request are put at the start of `numbers`, the bytes of an erect at the start of `file`.
+// A whole line. The numbers of a request are put at the start of `numbers`, the bytes of an erect at the start of
+// `file`.
 ghost use Rattle.std.specs.Prelude.{◌≡◌, length};
 ghost use Rattle.std.specs.Option.{option_copied};
 ghost use Rattle.requests.specs.Asked.{Room, asked_alone, asked_text, asked_in};

@@ -1,14 +1,23 @@
-use Rattle.std.proofs.Common.{◌≡◌, ◌-◌, length, arith}
-use Rattle.replies.proofs.Rows.{row-none, row_more, row_last}
+use Rattle.std.proofs.Common.{take_all}
+use Rattle.lines.specs.Text.{spaced}
+use Rattle.lines.proofs.Putting.{appends_none, appends_both}
+use Rattle.replies.proofs.Rows.{spaced_more, row_none, row_of}
 use Rattle.replies.proofs.text.put_row.Goals as goal
+use Rattle.replies.proofs.text.put_row.Goals.{in-Some+else-loop-n-test, in_default}
 
-pub loop-i-init : goal.loop-i-init
-loop-i-init c = row-none _ _ c.requires.0
+pub loop-n-init : goal.loop-n-init
+unfolding spaced
+loop-n-init c = appends_none _
 
-pub loop-i-preserved : goal.loop-i-preserved
-loop-i-preserved c = row_more _ _ _ c.loop-i.i (omega arith) c.loop-i.invariant c.put_number-p.ensures
+pub loop-n-preserved : goal.loop-n-preserved
+loop-n-preserved c =
+    rw (spaced_more _ _ c.loop-n-test.true) (appends_both c.loop-n.invariant (appends_both c.push_decimal.ensures c.push.ensures))
 
 pub returns : goal.returns
 returns c =
-    let e : c.loop-i.i ≡ length c.args.row.now - 1 = omega arith in
-    row_last _ _ _ (length c.args.row.now - 1) (omega arith) (rw e at c.loop-i.invariant) (omega arith) c.put_number.ensures
+    elim c.match-split_last.branch [
+      | in-Some+else-loop-n-test w ↦
+          let front = rw (take_all _ _ w.loop-n-test.false) at w.loop-n.invariant in
+          rw (w.in-Some.ensures.cases.0, row_of) (appends_both front (appends_both w.push_decimal-in-Some.ensures (rw w.text-is at c.push-2.ensures)))
+      | in_default w ↦ rw (row_none _ w.in_default.ensures.cases) (rw w.text-is at c.push-2.ensures)
+    ]

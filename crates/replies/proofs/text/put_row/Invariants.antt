@@ -1,6 +1,7 @@
 use Rattle.std.proofs.Common.{take}
-use Rattle.lines.specs.Text.{Puts, spaced}
+use Rattle.lines.specs.Text.{spaced}
+use Rattle.lines.specs.Appends.{Appends}
 use Rattle.replies.proofs.text.put_row.Given as goal
 
-abbrev pub invariant-loop-i : goal.invariant-loop-i
-invariant-loop-i l = Puts (spaced (take l.i l.row)) l.fn.out l.at l.out l.p
+abbrev pub invariant-loop-n : goal.invariant-loop-n
+invariant-loop-n l = Appends (spaced (take l.n-index l.front)) l.initial.text l.text

@@ -1,6 +1,7 @@
-use Rattle.lines.specs.Text.{Puts}
-use Rattle.replies.specs.MessageText.{rows_text}
+use Rattle.std.proofs.Common.{◌≡◌}
+use Rattle.replies.proofs.Rows.{RowsPut}
 use Rattle.replies.proofs.text.put_rows.Given as goal
 
-abbrev pub invariant-loop-i : goal.invariant-loop-i
-invariant-loop-i l = Puts (rows_text l.i l.rows) l.fn.out l.at l.out l.p
+abbrev pub invariant-loop-row : goal.invariant-loop-row
+invariant-loop-row l =
+    record { put : RowsPut l.rows l.row-iterator.rest.now l.initial.text l.text; six : l.row-iterator.size ≡ 6 }
