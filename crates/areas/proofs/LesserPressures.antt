@@ -1,29 +1,27 @@
 -- The lesser winds of the groups in code.
 use Prim.Native.Nat.{ℕ, zero, suc, ◌+◌, ◌*◌, ◌/◌, ◌≤◌, ◌<◌}
-use mathlib.Core.Path.{◌≡◌, refl, sym, subst}
-use mathlib.Core.Bool.{Bool, true, false, cond, ◌||◌, or-true}
+use mathlib.Core.Path.{◌≡◌, refl, sym, subst, ◌∙◌}
+use mathlib.Core.Bool.{Bool, true, false, cond, not, ◌&&◌}
 use mathlib.Core.List.{List, [], ◌∷◌}
 use mathlib.Core.Logic.{⊎_elim}
-use native.Mathlib.Numerals.{add-one}
 use native.Mathlib.Omega.{arith}
 use native.Mathlib.Nat.{mul-pos, mul-le-mul}
 use lib.Dec.{eqb}
 use lib.ListN.{length, get_or, take}
-use lib.Seq.{take-suc}
 use borrow.Author.Tests.{eq-eqb, ne_eqb}
 use Rattle.units.specs.declared.Length.{Length}
 use Rattle.exact.proofs.Order.{le-or-lt}
 use Rattle.exact.proofs.Bools.{clash, and_split}
-use Rattle.model.specs.declared.Member.TheVariants.{Round}
+use Rattle.model.specs.declared.Member.{Member}
+use Rattle.model.specs.declared.Member.TheVariants.{Flat, Round}
 use Rattle.model.specs.declared.Group.{Group}
 use Rattle.model.specs.Lists.{any_of, all_of, joined}
 use Rattle.model.specs.Areas.{flow_limit, is_supercritical, lesser_of, lesser_winds, areas_of}
-use Rattle.model.proofs.Lists.{any_append}
-use Rattle.model.proofs.FileLength.{joined-more}
+use Rattle.std.proofs.lemmas.List.Folds.{list_any-append}
 use Rattle.model.specs.Valid.{group_fits}
 use Rattle.model.proofs.Sections.{none-lesser}
 use Rattle.model.proofs.LesserWinds.{GreatestUnder, greatest-under, positive, less, limit-above, limit-over, stays, turns_at}
-use Rattle.areas.specs.LesserPressures.{Covered, none}
+use Rattle.areas.specs.LesserPressures.{turns_above, Needless, seen, Covered, none}
 
 -- the greatest pressure below it: not 0 for a diameter of at most 1 m, and below q
 module _ (q : ℕ) (d : Length) (g : flow_limit < 2 * q * (d.0 * d.0)) where
@@ -44,9 +42,9 @@ module _ (q : ℕ) (d : Length) (g : flow_limit < 2 * q * (d.0 * d.0)) where
 
 -- a round that turns supercritical between p and p + 1 has the lesser wind p under every higher pressure, and no other has
 module _ (t : Length) (p : ℕ) (d : Length) where
-  pub not_turned : is_supercritical t p d ≡ true → (q : ℕ) → p < q → false ≡ any_of (eqb p) (lesser_of t q (Round d))
+  not-turned : is_supercritical t p d ≡ true → (q : ℕ) → p < q → false ≡ any_of (eqb p) (lesser_of t q (Round d))
   unfolding lesser_of
-  not_turned h q l = go (is_supercritical t q d) refl
+  not-turned h q l = go (is_supercritical t q d) refl
     where
       go : (b : Bool) → is_supercritical t q d ≡ b → false ≡ any_of (eqb p) (cond b (flow_limit / (2 * (d.0 * d.0)) ∷ []) [])
       go true e =
@@ -54,7 +52,7 @@ module _ (t : Length) (p : ℕ) (d : Length) where
           rw (ne_eqb p (flow_limit / (2 * (d.0 * d.0))) (λ z. omega (arith, g)))
       go false e = refl
 
-  pub turned : is_supercritical t p d ≡ false → (q : ℕ) → p < q → is_supercritical t (p + 1) d ≡ any_of (eqb p) (lesser_of t q (Round d))
+  turned : is_supercritical t p d ≡ false → (q : ℕ) → p < q → is_supercritical t (p + 1) d ≡ any_of (eqb p) (lesser_of t q (Round d))
   unfolding lesser_of
   turned h q l = go (is_supercritical t q d) (is_supercritical t (p + 1) d) refl refl
     where
@@ -68,22 +66,25 @@ module _ (t : Length) (p : ℕ) (d : Length) where
       go false true e f = absurd (clash (stays t (p + 1) q d (omega arith) f) e)
       go false false e f = refl
 
--- the lesser winds of one group more; and one that a group has is among those of all
-module _ (t : Length) (q p : ℕ) where
-  pub wind-more : (gs : List Group) (i : ℕ) (d : Group) → i < length gs
-      → any_of (eqb p) (lesser_winds t q (take (i + 1) gs)) ≡ (any_of (eqb p) (lesser_winds t q (take i gs)) || any_of (eqb p) (lesser_of t q (get_or gs i d).member))
-  unfolding lesser_winds
-  wind-more gs i d h =
-      rw (add-one, take-suc gs i d h, joined-more (λ g. lesser_of t q g.member) (take i gs) (get_or gs i d))
-      (any_append (eqb p) (lesser_winds t q (take i gs)) (lesser_of t q (get_or gs i d).member))
+-- a member that turns supercritical above p has the lesser wind p under every higher pressure, and no other has
+turns : (t : Length) (p q : ℕ) (m : Member) → p < q → turns_above t p m ≡ any_of (eqb p) (lesser_of t q m)
+unfolding turns_above lesser_of
+turns t p q (Flat w) h = refl
+turns t p q (Round d) h = go (is_supercritical t p d) refl
+  where
+    go : (b : Bool) → is_supercritical t p d ≡ b → (not b && is_supercritical t (p + 1) d) ≡ any_of (eqb p) (lesser_of t q (Round d))
+    go true e = not-turned t p d e q h
+    go false e = turned t p d e q h
 
-  pub wind-found : (gs : List Group) (i : ℕ) (d : Group) → i < length gs → any_of (eqb p) (lesser_of t q (get_or gs i d).member) ≡ true
-      → any_of (eqb p) (lesser_winds t q gs) ≡ true
-  unfolding lesser_winds joined
-  wind-found [] i d h e = absurd (omega arith)
-  wind-found (g ∷ gs) zero d h e = rw (any_append (eqb p) (lesser_of t q g.member) (lesser_winds t q gs), e)
-  wind-found (g ∷ gs) (suc i) d h e =
-      rw (any_append (eqb p) (lesser_of t q g.member) (lesser_winds t q gs), wind-found gs i d (omega arith) e) (or-true _)
+any-turns : (t : Length) (p q : ℕ) (gs : List Group) → p < q → any_of (λ (g : Group). turns_above t p g.member) gs ≡ any_of (eqb p) (lesser_winds t q gs)
+unfolding lesser_winds joined
+any-turns t p q [] h = refl
+any-turns t p q (g ∷ gs) h =
+    rw (list_any-append (eqb p) (lesser_of t q g.member) (lesser_winds t q gs), turns t p q g.member h, any-turns t p q gs h)
+
+pub came_before : (t : Length) (p q : ℕ) (gs : List Group) (i : ℕ) → p < q → any_of (λ (g : Group). turns_above t p g.member) (take i gs) ≡ true
+    → Needless t q gs i p
+came_before t p q gs i h e = seen (sym (any-turns t p q (take i gs) h) ∙ e)
 
 -- what is read past the end does not matter before it
 pub get_or-any : (l : List Group) (i : ℕ) (c d : Group) → i < length l → get_or l i c ≡ get_or l i d

@@ -1,10 +1,17 @@
 -- The lesser winds of a section's groups in code, and which of them are worked out.
-use Rattle.std.specs.Prelude.{ℕ, ◌*◌, ◌≤◌, ◌<◌, ◌≡◌, true, Option, Some, None, List, [], ◌∷◌, eqb, get_or, take, length}
+use Rattle.std.specs.Prelude.{ℕ, ◌*◌, ◌≤◌, ◌<◌, ◌≡◌, ◌+◌, Bool, true, false, not, ◌&&◌, Option, Some, None, List, [], ◌∷◌, eqb, get_or, take, length}
 use Rattle.units.specs.declared.Length.{Length}
+use Rattle.model.specs.declared.Member.{Member}
+use Rattle.model.specs.declared.Member.TheVariants.{Flat, Round}
 use Rattle.model.specs.declared.Group.{Group}
 use Rattle.model.specs.Lists.{any_of}
-use Rattle.model.specs.Areas.{lesser_of, lesser_winds}
+use Rattle.model.specs.Areas.{is_supercritical, lesser_of, lesser_winds}
 use Rattle.areas.specs.declared.lesser.NextWind.{NextWind}
+
+-- a round that is subcritical under p and supercritical above it
+unfoldable pub turns_above : Length → ℕ → Member → Bool
+turns_above t p (Flat w) = false
+turns_above t p (Round d) = not (is_supercritical t p d) && is_supercritical t (p + 1) d
 
 -- group i need not be worked out in its lesser wind p: that is at most a quarter of q, or came before
 pub data Needless (t : Length) (q : ℕ) (gs : List Group) (i p : ℕ) : Type 0 where

@@ -1,8 +1,8 @@
 // Document 02, M-103: the lesser winds of a section's groups.
-ghost use Rattle.std.specs.Prelude.{◌≡◌, true, false, ℕ, ◌*◌, ◌/◌, ◌≤◌, ◌<◌, eqb, take, length, IfSome, option_to_list};
+ghost use Rattle.std.specs.Prelude.{◌≡◌, true, ◌*◌, ◌/◌, ◌≤◌, ◌<◌, take, length, IfSome, option_to_list};
 ghost use Rattle.model.specs.Lists.{any_of};
-ghost use Rattle.model.specs.Areas.{size_of, flow_limit, lesser_of, lesser_winds};
-ghost use Rattle.areas.specs.LesserPressures.{Needless, NextOf};
+ghost use Rattle.model.specs.Areas.{size_of, flow_limit, lesser_of};
+ghost use Rattle.areas.specs.LesserPressures.{turns_above, Needless, NextOf};
 
 use crate::face::Face;
 use crate::section::{FLOW_LIMIT, is_supercritical};
@@ -38,11 +38,11 @@ fn lesser_pressure(t: Length, q: u16, member: Member) -> Option<u16>
     }
 }
 
-// Whether p is the lesser wind of a member under a higher pressure: whether it turns supercritical above p.
-#[tactic(auto, using(crate::proofs::LesserPressures::turned, crate::proofs::LesserPressures::not_turned), unfolding(model::specs::Areas::lesser_of))]
+// Whether p is the lesser wind of a member under a higher pressure.
+#[tactic(auto, unfolding(crate::specs::LesserPressures::turns_above))]
 fn turns_above(t: Length, p: u16, member: Member) -> bool
-    requires { ((size_of member).0 ≤ 1000) × (p < 65_535) }
-    ensures { (q : ℕ) → p < q → result ≡ any_of (eqb p) (lesser_of t q member) }
+    requires { p < 65_535 }
+    ensures { result ≡ turns_above t p member }
 {
     match member {
         Member::Flat(_) => false,
@@ -54,17 +54,15 @@ impl<'a> Face<'a> {
     // Whether one of the first i groups has the lesser wind p under a higher pressure.
     fn came_before(&self, t: Length, p: u16, i: usize) -> bool
         requires { (i ≤ length self.now.groups.now) × (p < 65_535) }
-        ensures { (q : ℕ) → p < q → result ≡ any_of (eqb p) (lesser_winds t q (take i self.now.groups.now)) }
+        ensures { result ≡ any_of (λ g. turns_above t p g.member) (take i self.now.groups.now) }
     {
-        for group in &self.groups[..i] {
-            if turns_above(t, p, group.member) {
-                return true;
-            }
-        }
-        false
+        self.groups[..i]
+            .iter()
+            .any(|group| turns_above(t, p, group.member))
     }
 
     // Whether group i need not be worked out in its lesser wind p.
+    #[tactic(auto, using(crate::proofs::LesserPressures::came_before))]
     fn is_needless(&self, t: Length, q: u16, p: u16, i: usize) -> bool
         requires { (i < length self.now.groups.now) × (p < q) }
         ensures { result ≡ true → Needless t q self.now.groups.now i p }

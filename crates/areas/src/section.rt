@@ -1,7 +1,7 @@
 // Document 01, "Areas and flow".
 ghost use Rattle.std.specs.Prelude.{◌≡◌, true, ◌≤◌};
 ghost use Rattle.model.specs.Tower.{section_of};
-ghost use Rattle.model.specs.Areas.{size_of, iced_area, group_area, is_supercritical, flow_of, gross, largest_gross};
+ghost use Rattle.model.specs.Areas.{iced_area, group_area, is_supercritical, flow_of, gross, largest_gross};
 ghost use Rattle.model.specs.Valid.{group_fits};
 ghost use Rattle.areas.specs.Sums.{Added, SmallAreas};
 
@@ -30,16 +30,13 @@ pub(crate) const FLOW_LIMIT: u64 = 45_000_000;
 
 // With the bare diameter d, and only where there is no ice.
 pub(crate) fn is_supercritical(t: Length, q: u16, d: Length) -> bool
-    requires { d.0 ≤ 1000 }
     ensures { result ≡ is_supercritical t q d }
 {
-    let x = d.0 as u64;
-    t.0 == 0 && FLOW_LIMIT < 2 * (q as u64) * (x * x)
+    t.0 == 0 && (FLOW_LIMIT as u128) < 2 * (q as u128) * ((d * d).0 as u128)
 }
 
 #[tactic(auto, unfolding(model::specs::Areas::flow_of))]
 pub fn flow_class(t: Length, q: u16, member: Member) -> Flow
-    requires { (size_of member).0 ≤ 1000 }
     ensures { result ≡ flow_of t q member }
 {
     match member {

@@ -1,13 +1,15 @@
 -- Sums over lists and over indices; tests over lists; nothing of it depends on the order.
 use Prim.Native.Nat.{ℕ, zero, suc, ◌+◌, ◌*◌, ◌≤◌, ◌<◌}
 use mathlib.Core.Path.{◌≡◌, refl, ap, sym, ◌∙◌}
-use mathlib.Core.Bool.{Bool, true, false, cond, ◌&&◌, ◌||◌, and-true, and-false, and_assoc, and_comm, or-true, or-false, or_assoc, or_comm}
+use mathlib.Core.Bool.{Bool, true, false, cond, ◌&&◌, ◌||◌, and-false, and_assoc, and_comm, or_assoc, or_comm}
 use mathlib.Core.List.{List, [], ◌∷◌, ◌++◌, map, Permᴰ, Forall₂}
 use mathlib.Core.Logic.{⊎_elim}
 use native.Mathlib.Numerals.{add-one}
 use native.Mathlib.Omega.{arith}
 use lib.ListN.{length, get_or, set, take, drop, length-append, length-map, take-append-drop}
 use lib.Seq.{take-suc, get_or-take, length-take-le}
+pub use Rattle.std.proofs.lemmas.List.Folds.{list_all-append as all-of-append, list_any-append as any_append, list_all_more as all_more}
+pub use Rattle.std.proofs.lemmas.List.Elements.{filter-append as kept_append}
 use Rattle.model.specs.Lists.{any_of, all_of, kept, sum_by, sum_to, list_to}
 use Rattle.exact.specs.Number.{Every, none, also, Some, this}
 use Rattle.exact.proofs.Bools.{and_split, and-join, or_split, or-join}
@@ -147,12 +149,8 @@ module _ {A : Type 0} (p : A → Bool) where
       let e : p (get_or (take n l) i d) ≡ true = all-at p (take n l) i d k t in
       rw (get_or-take) at e
 
-  pub all-of-append : (xs ys : List A) → all_of p (xs ++ ys) ≡ (all_of p xs && all_of p ys)
-  all-of-append [] ys = refl
-  all-of-append (x ∷ xs) ys = rw (all-of-append xs ys) (sym (and_assoc (p x) (all_of p xs) (all_of p ys)))
-
   pub all-parts : (xs ys : List A) → all_of p (xs ++ ys) ≡ true → (all_of p xs ≡ true) × (all_of p ys ≡ true)
-  all-parts xs ys h = and_split (all_of p xs) (all_of p ys) (sym (all-of-append xs ys) ∙ h)
+  all-parts xs ys h = and_split (all_of p xs) (all_of p ys) (sym (all-of-append p xs ys) ∙ h)
 
   pub all_in : (l : List A) (a : A) (m : List A) → all_of p (l ++ (a ∷ m)) ≡ true → p a ≡ true
   all_in l a m h = (and_split (p a) (all_of p m) (all-parts l (a ∷ m) h).1).0
@@ -167,24 +165,6 @@ module _ {A : Type 0} (p : A → Bool) where
       let k : _ = and_split (p x) (all_of p xs) h in
       and-join k.0 (all_set xs i a k.1 q)
 
-  pub any_append : (xs ys : List A) → any_of p (xs ++ ys) ≡ (any_of p xs || any_of p ys)
-  any_append [] ys = refl
-  any_append (x ∷ xs) ys = rw (any_append xs ys) (sym (or_assoc (p x) (any_of p xs) (any_of p ys)))
-
-  -- one turn of a loop over an array
-  pub all_more : (l : List A) (i : ℕ) (d : A) → i < length l → all_of p (take (i + 1) l) ≡ (all_of p (take i l) && p (get_or l i d))
-  all_more l i d h = rw (add-one, take-suc l i d h, all-of-append, and-true)
-
-  pub any-more : (l : List A) (i : ℕ) (d : A) → i < length l → any_of p (take (i + 1) l) ≡ (any_of p (take i l) || p (get_or l i d))
-  any-more l i d h = rw (add-one, take-suc l i d h, any_append, or-false)
-
-  -- one that holds of one of the first n holds of some of them
-  pub any-holds : (l : List A) (n i : ℕ) (d : A) → i < n → n ≤ length l → p (get_or l i d) ≡ true → any_of p (take n l) ≡ true
-  any-holds [] n i d h g f = absurd (omega arith)
-  any-holds (x ∷ xs) zero i d h g f = absurd (omega arith)
-  any-holds (x ∷ xs) (suc n) zero d h g f = rw f
-  any-holds (x ∷ xs) (suc n) (suc i) d h g f = rw (any-holds xs n i d (omega arith) (omega arith) f) (or-true (p x))
-
   -- one that fails of one of the first n fails of them together
   pub all-fails : (l : List A) (n i : ℕ) (d : A) → i < n → n ≤ length l → p (get_or l i d) ≡ false → all_of p (take n l) ≡ false
   all-fails [] n i d h g f = absurd (omega arith)
@@ -192,16 +172,12 @@ module _ {A : Type 0} (p : A → Bool) where
   all-fails (x ∷ xs) (suc n) zero d h g f = rw f
   all-fails (x ∷ xs) (suc n) (suc i) d h g f = rw (all-fails xs n i d (omega arith) (omega arith) f) (and-false (p x))
 
--- a test that holds of all, from one that says more; and of all that a function gives
+-- a test that holds of all, from one that says more
 pub all_weaker : {A : Type 0} (p q : A → Bool) → ((x : A) → p x ≡ true → q x ≡ true) → (l : List A) → all_of p l ≡ true → all_of q l ≡ true
 all_weaker p q h [] t = refl
 all_weaker p q h (x ∷ xs) t =
     let k : _ = and_split (p x) (all_of p xs) t in
     and-join (h x k.0) (all_weaker p q h xs k.1)
-
-pub all_map : {A B : Type 0} (f : A → B) (p : B → Bool) (l : List A) → all_of p (map f l) ≡ all_of (λ (x : A). p (f x)) l
-all_map f p [] = refl
-all_map f p (x ∷ xs) = rw (all_map f p xs)
 
 -- tests do not depend on the order
 and-swap : (a b c : Bool) → (a && (b && c)) ≡ (b && (a && c))
@@ -230,15 +206,6 @@ either_way P false h g = g
 
 -- the elements that a test keeps
 module _ {A : Type 0} (p : A → Bool) where
-  pub kept_append : (l m : List A) → kept p (l ++ m) ≡ kept p l ++ kept p m
-  kept_append [] m = refl
-  kept_append (x ∷ l) m = by-case (p x) (kept_append l m)
-    where
-      by-case : (b : Bool) → kept p (l ++ m) ≡ kept p l ++ kept p m
-          → cond b (x ∷ kept p (l ++ m)) (kept p (l ++ m)) ≡ cond b (x ∷ kept p l) (kept p l) ++ kept p m
-      by-case true e = ap (λ (k : List A). x ∷ k) e
-      by-case false e = e
-
   pub length-kept : (l : List A) → length (kept p l) ≤ length l
   length-kept [] = omega arith
   length-kept (x ∷ xs) = either_way (λ (m : List A). length m ≤ length (x ∷ xs)) (p x) (omega (arith, length-kept xs)) (omega (arith, length-kept xs))

@@ -17,7 +17,8 @@ use Rattle.model.specs.Machine.{State, no_tower, standing, erect_refusal, with_i
 use Rattle.model.specs.Calls.{Call, erect, hang, wind, report, bits, typed, typed_item, refusal_of, step, run, lent_last, newly_erected, first_refusal}
 use Rattle.model.specs.Valid.{item_fits, ValidTower, ValidWind}
 use Rattle.exact.proofs.Bools.{and-join}
-use Rattle.model.proofs.Lists.{length-perm, all-perm, all_append, all_map, all_weaker, all_in}
+use Rattle.model.proofs.Lists.{length-perm, all-perm, all_append, all_weaker, all_in}
+use Rattle.std.proofs.lemmas.List.Folds.{list_all-map}
 use Rattle.model.proofs.Distinct.{distinct-perm, new-number}
 use Rattle.model.proofs.Sections.{in-range}
 use Rattle.model.proofs.Reorder.{rows-order}
@@ -92,7 +93,7 @@ module _ (t : Tower) (w : Wind) (v : ValidWind t w) (items : List Item) (p : Per
       let hung : all_of typed_item items ≡ true =
       all_weaker (item_fits (length t.sections)) typed_item (λ it f. valid-item-typed (length t.sections) it few f) items reordered.items in
       and-join (file-bytes (with_items t []))
-      (all_append typed (map hang items) (wind w ∷ report lent ∷ []) (all_map hang typed items ∙ hung)
+      (all_append typed (map hang items) (wind w ∷ report lent ∷ []) (list_all-map typed hang items ∙ hung)
       (and-join (valid-wind-typed v) (and-join h refl)))
 
   pub newly-state : run no_tower (newly_erected t items w lent) ≡ standing (with_items t items) (some w)

@@ -2,7 +2,7 @@ use Rattle.std.proofs.Common.{refl, sym, ◌∙◌, arith}
 use Rattle.std.proofs.lemmas.List.{take_all}
 use Rattle.exact.proofs.Bools.{and-join}
 use Rattle.model.specs.Valid.{group_fits}
-use Rattle.model.proofs.Lists.{all_more}
+use Rattle.std.proofs.lemmas.List.Folds.{list_all_more}
 use Rattle.areas.proofs.Facts.{no_group}
 use Rattle.areas.proofs.Sums.{after_none, after-more, after-small}
 use Rattle.areas.proofs.ranges.measure_groups.Goals as goal
@@ -16,7 +16,7 @@ loop-group-preserved c =
     let l = c.loop-group in
     let fits = sym c.group_fits.ensures ∙ c.if-not-group_fits.false in
     record {
-      fit = all_more group_fits gs l.group-index no_group c.loop-group-test.true ∙ and-join l.invariant.fit fits;
+      fit = list_all_more group_fits gs l.group-index no_group c.loop-group-test.true ∙ and-join l.invariant.fit fits;
       areas = after-more c.args.ice.thickness c.args.q gs l.group-index no_group c.args.ice.thin c.loop-group-test.true fits l.invariant.areas c.add_group-areas.ensures;
     }
 
