@@ -40,7 +40,8 @@ module _ (q : ℕ) (d : Length) (g : flow_limit < 2 * q * (d.0 * d.0)) where
     pub greatest-positive : 0 < flow_limit / (2 * (d.0 * d.0))
     greatest-positive = greatest.none_above 1 (omega (arith, square-small.1))
 
--- a round that turns supercritical between p and p + 1 has the lesser wind p under every higher pressure, and no other has
+-- a round that turns supercritical between p and p + 1 has the lesser wind p under every higher pressure, and no other
+-- has
 module _ (t : Length) (p : ℕ) (d : Length) where
   not-turned : is_supercritical t p d ≡ true → (q : ℕ) → p < q → false ≡ any_of (eqb p) (lesser_of t q (Round d))
   unfolding lesser_of

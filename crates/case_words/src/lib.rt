@@ -1,5 +1,6 @@
-// A section under a wind, as a run of numbers: LEGS K ICE FACTOR PRESSURE WIDTH HEIGHT GROUPCOUNT (KIND SIZE LENGTH)*. What stands past
-// the end counts as 0, and a number that does not fit its type as the largest that does: no range reaches so far.
+// A section under a wind, as a run of numbers: LEGS K ICE FACTOR PRESSURE WIDTH HEIGHT GROUPCOUNT (KIND SIZE LENGTH)*.
+// What stands past the end counts as 0, and a number that does not fit its type as the largest that does: no range
+// reaches so far.
 #![tactic(auto)]
 
 pub mod faults;
@@ -26,8 +27,8 @@ pub struct Case {
     pub section: Section,
 }
 
-// The first thing that is wrong with a case. Missing: there are fewer than 8 numbers, or, after Sizes, too few for the groups.
-// Sizes: the width, the height or the number of groups. Solidity: A_S is above A_u, bare or under the ice.
+// The first thing that is wrong with a case. Missing: there are fewer than 8 numbers, or, after Sizes, too few for the
+// groups. Sizes: the width, the height or the number of groups. Solidity: A_S is above A_u, bare or under the ice.
 #[derive(Clone, Copy, Debug, PartialEq, Eq, Hash)]
 pub enum Fault {
     Missing,

@@ -1,5 +1,5 @@
--- Document 02, M-112, of towers: where no section's pressure is lower and all else is the same, the exact forces are not below,
--- and so the reported numbers.
+-- Document 02, M-112, of towers: where no section's pressure is lower and all else is the same, the exact forces are
+-- not below, and so the reported numbers.
 use Prim.Native.Nat.{ℕ, zero, suc, ◌+◌, ◌*◌, ◌≤◌, ◌<◌}
 use mathlib.Core.Path.{◌≡◌, ap, fun_ext}
 use native.Mathlib.Omega.{arith}

@@ -107,7 +107,8 @@ module _ (file : List ℕ) (k ice factor : ℕ) (ps : List ℕ) (m : ℕ) (even 
   unfolding host_refusal erect_refusal
   host-refusal = by-file (read_file file) (file-numbered file)
 
--- where there are not 2 bytes per section it is 18, unless a rule before that is met; so an odd number of bytes is never accepted
+-- where there are not 2 bytes per section it is 18, unless a rule before that is met; so an odd number of bytes is
+-- never accepted
 pub host-miscounted : (t : Tower) (rest : List ℕ) (w : Wind) (given room : ℕ) → (given ≡ 2 * length t.sections → ⊥)
     → after_file (got t rest) w given room
     ≡ refuse_if (not (direction_fits t.legs w.direction)) 15

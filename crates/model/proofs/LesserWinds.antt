@@ -1,4 +1,5 @@
--- The lesser winds of a section, and the exact force on a section with 0 < A_S ≤ A_u: it is a number, not negative, and bounded.
+-- The lesser winds of a section, and the exact force on a section with 0 < A_S ≤ A_u: it is a number, not negative, and
+-- bounded.
 use Prim.Native.Nat.{ℕ, zero, suc, ◌+◌, ◌*◌, ◌-◌, ◌/◌, ◌≤◌, ◌<◌}
 use mathlib.Core.Path.{◌≡◌, refl, ap, subst}
 use mathlib.Core.Bool.{Bool, true, false, cond}

@@ -1,4 +1,5 @@
--- Arms, shears and moments: how they grow from one foot to the next, their bounds, and their excess over the exact ones.
+-- Arms, shears and moments: how they grow from one foot to the next, their bounds, and their excess over the exact
+-- ones.
 use Prim.Native.Nat.{ℕ, zero, suc, ◌+◌, ◌*◌, ◌-◌, ◌/◌, ◌≤◌, ◌<◌}
 use mathlib.Core.Path.{◌≡◌, refl, ap, sym, ◌∙◌, subst}
 use mathlib.Core.List.{List, [], ◌∷◌, ◌++◌, Forall₂}

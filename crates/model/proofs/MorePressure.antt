@@ -1,6 +1,6 @@
--- Document 02, M-112, of one section: its exact force is the greatest value of the formula at any whole pressure up to the full
--- one. From one pressure to the next every group keeps its class, and then the force grows with the pressure; or the lower
--- one is a lesser wind.
+-- Document 02, M-112, of one section: its exact force is the greatest value of the formula at any whole pressure up to
+-- the full one. From one pressure to the next every group keeps its class, and then the force grows with the pressure;
+-- or the lower one is a lesser wind.
 use Prim.Native.Nat.{ℕ, zero, suc, ◌+◌, ◌-◌, ◌≤◌, ◌<◌}
 use mathlib.Core.Path.{◌≡◌, refl}
 use mathlib.Core.Bool.{Bool, true, false, cond}

@@ -27,7 +27,8 @@ use Rattle.model.proofs.Refused.{same-state}
 use Rattle.model.proofs.RoundTrips.{bare-file, file-bytes}
 use Rattle.model.proofs.Reached.{fit_parts, hang-accepted, valid-items, valid-item-typed, valid-wind-typed}
 
--- the calls cs from m and the calls rest from m' have the same first refusal, the same state at the end and the same last lent slice
+-- the calls cs from m and the calls rest from m' have the same first refusal, the same state at the end and the same
+-- last lent slice
 record Leads (m : State) (cs : List Call) (m' : State) (rest : List Call) : Type 0 where
   refusal : first_refusal m cs ≡ first_refusal m' rest
   state : run m cs ≡ run m' rest

@@ -1,4 +1,5 @@
--- Every state that a list of calls comes to from a valid one is valid; and what a valid state holds is of its type, so that calls can be given it again.
+-- Every state that a list of calls comes to from a valid one is valid; and what a valid state holds is of its type, so
+-- that calls can be given it again.
 use Prim.Native.Nat.{ℕ, ◌^◌, ◌≤◌, ◌<◌}
 use mathlib.Core.Path.{◌≡◌, refl}
 use mathlib.Core.Bool.{Bool, true, false, cond, not}

@@ -64,7 +64,8 @@ pub ranged-got : (w : ℕ) (r : Range) (n : ℕ) (s : List ℕ) {v : ℕ} {rest 
     → ranged w r n s ≡ got v rest → (field w s ≡ got v rest) × (within r v ≡ true)
 ranged-got w r n s e = when-got (ranged-gives w r n s) e
 
--- a run of parts: what holds of l and still holds after each part holds of what was read; and n parts came behind those of l
+-- a run of parts: what holds of l and still holds after each part holds of what was read; and n parts came behind those
+-- of l
 module _ {A : Type 0} (p : List A → List ℕ → Parsed A) where
   pub many-gives : (I : List A → List ℕ → Type 0) → ((l : List A) (s : List ℕ) → I l s → Gives (λ a rest. I (l ++ (a ∷ [])) rest) (p l s))
       → (n : ℕ) (l : List A) (s : List ℕ) → I l s → Gives (λ l' rest. I l' rest × (length l' ≡ length l + n)) (many p n l s)

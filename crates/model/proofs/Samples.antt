@@ -1,4 +1,5 @@
--- The starred sample towers, by computing: tests, one law from the tests to the statement, and the table's tests in one run.
+-- The starred sample towers, by computing: tests, one law from the tests to the statement, and the table's tests in one
+-- run.
 use Prim.Native.Nat.{ℕ, ◌+◌, ◌-◌}
 use mathlib.Core.Path.{◌≡◌, refl, sym}
 use mathlib.Core.Bool.{Bool, true, false, not, ◌&&◌, ◌||◌, true≢false}

@@ -74,7 +74,8 @@ refusals =
     ∷ refusal.OutputShort
     ∷ []
 
--- a refusal's number is not 0, which says that a call is accepted, and is at most the highest; the refusal stands at that place of the list
+-- a refusal's number is not 0, which says that a call is accepted, and is at most the highest; the refusal stands at
+-- that place of the list
 refusal-numbered : (r : Refusal)
     → (0 < refusal_number r) × (refusal_number r ≤ highest_refusal) × (get_or refusals (refusal_number r - 1) refusal.NoTower ≡ r)
 refusal-numbered refusal.NoTower = (lit< tt, lit≤ tt, refl)

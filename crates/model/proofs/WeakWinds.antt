@@ -1,5 +1,5 @@
--- A whole number of newtons that is not below the formula's value at q is not below that at a quarter of q or less: every
--- coefficient is at least 1 and at most 4, and Kθ and the items' sum are the same at both pressures.
+-- A whole number of newtons that is not below the formula's value at q is not below that at a quarter of q or less:
+-- every coefficient is at least 1 and at most 4, and Kθ and the items' sum are the same at both pressures.
 use Prim.Native.Nat.{ℕ, ◌+◌, ◌*◌, ◌-◌, ◌≤◌, ◌<◌}
 use mathlib.Core.Path.{◌≡◌, refl, sym, ap, subst}
 use mathlib.Core.Bool.{Bool, true, false, cond}

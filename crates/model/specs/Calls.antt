@@ -1,4 +1,5 @@
--- Lists of calls: an entry is one of the seven calls with its arguments as fixed values; and the machine's run over a list.
+-- Lists of calls: an entry is one of the seven calls with its arguments as fixed values; and the machine's run over a
+-- list.
 use Rattle.std.specs.Prelude.{ℕ, ◌^◌, Bool, true, cond, ◌&&◌, List, [], ◌∷◌, ◌++◌, map, ltb, eqb, length}
 use Rattle.model.specs.declared.Item.{Item}
 use Rattle.model.specs.Lists.{all_of}
@@ -38,8 +39,8 @@ pub data Call : Type 0 where
   write : List ℕ → Call
 
 -- the arguments are values of their types: 8 bits for a byte and an item's section, 16 for its number, its thousandths
--- and a pressure, 32 for lengths and the other numbers of a wind, 64 for a number of a report. That these are the types of the service's
--- parameters is the law `link-typed` of the crate `service`
+-- and a pressure, 32 for lengths and the other numbers of a wind, 64 for a number of a report. That these are the types
+-- of the service's parameters is the law `link-typed` of the crate `service`
 abbrev pub bits : ℕ → ℕ → Bool
 bits w n = ltb n (2 ^ w)
 
@@ -65,8 +66,8 @@ typed (report lent) = all_of (bits 64) lent
 typed check = true
 typed (write lent) = all_of (bits 8) lent
 
--- what a call means in a state: the number of the first refusal whose condition is met, or 0; and where that is 0 the next
--- state, the values answered beside the number, and what is put at the front of the lent slice
+-- what a call means in a state: the number of the first refusal whose condition is met, or 0; and where that is 0 the
+-- next state, the values answered beside the number, and what is put at the front of the lent slice
 pub record Meaning : Type 0 where
   pub refusal : ℕ
   pub next : State

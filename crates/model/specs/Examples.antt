@@ -205,7 +205,8 @@ plain_tower items =
 abbrev pub allowing : Section → ℕ → Section
 allowing x newtons = record { width = x.width; height = x.height; allowance = record { 0 = newtons }; groups = x.groups }
 
--- three sections like it, with these allowances, and a wind of 1 000 N/m² on each: the shears are 7 033, 14 066 and 21 099 N
+-- three sections like it, with these allowances, and a wind of 1 000 N/m² on each: the shears are 7 033, 14 066 and 21
+-- 099 N
 unfoldable pub three_allowing : ℕ → ℕ → ℕ → Tower
 three_allowing upper middle lower =
     record { legs = Four; sections = map (allowing (section_at (plain_tower []) 0)) (upper ∷ middle ∷ lower ∷ []); items = [] }
@@ -245,7 +246,8 @@ pub record MachineExamples : Type 0 where
   pub exceeded : exceeds (record { 0 = 501 }) (record { 0 = 500 }) ≡ true
   pub reached : exceeds (record { 0 = 500 }) (record { 0 = 500 }) ≡ false
   pub not_stated : exceeds (record { 0 = 501 }) (record { 0 = 0 }) ≡ false
-  -- of several sections over their allowances the topmost; one that states none is not over, nor one whose shear is equal to it
+  -- of several sections over their allowances the topmost; one that states none is not over, nor one whose shear is
+  -- equal to it
   pub topmost_of_three : TopmostOver (three_allowing 7032 14_065 21_098) three_pressed 0
   pub topmost_stated : TopmostOver (three_allowing 0 14_065 21_098) three_pressed 1
   pub topmost_exceeded : TopmostOver (three_allowing 7033 14_066 21_098) three_pressed 2

@@ -65,7 +65,8 @@ read_sections n s = many (λ (l : List Section). read_section) n [] s
 abbrev pub numbered : ℕ → List Item → Bool
 numbered n l = any_of (λ (it : Item). eqb it.number n) l
 
--- the fields of an item behind its number and section, 2 bytes each: width, length, bare and iced coefficient, position factor K
+-- the fields of an item behind its number and section, 2 bytes each: width, length, bare and iced coefficient, position
+-- factor K
 unfoldable pub read_item_fields : ℕ → ℕ → List ℕ → Parsed Item
 read_item_fields number section s =
     then (ranged 2 item_width 12 s) λ width s₁.

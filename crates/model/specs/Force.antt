@@ -91,7 +91,8 @@ item_part t it = coefficient t it * it.position * (item_area t it).0
 unfoldable pub item_sum : Length → ℕ → List Item → ℕ
 item_sum t i items = sum_by (λ it. cond (eqb it.section i) (item_part t it) 0) items
 
--- the largest item: 3 m by 10 m under 50 mm of ice, coefficient 3 and K 1; no section has more than 64 of it (laws `item-bound`, `items-bound`)
+-- the largest item: 3 m by 10 m under 50 mm of ice, coefficient 3 and K 1; no section has more than 64 of it (laws
+-- `item-bound`, `items-bound`)
 abbrev pub largest_item : ℕ
 largest_item = 3000 * 1000 * (3100 * 10_000)
 

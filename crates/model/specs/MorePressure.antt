@@ -30,8 +30,8 @@ pub record NoLower (t : Tower) (w : Wind) (t' : Tower) (w' : Wind) : Type 0 wher
   pub factor : w.factor ≡ w'.factor
   pub pressure : (i : ℕ) → i < length t.sections → pressure_at w i ≤ pressure_at w' i
 
--- a number of a second report is above that of a first one, less a bound: so many newtons for a force, times the sections
--- down to the foot for a shear, times the sum of the arms for a moment
+-- a number of a second report is above that of a first one, less a bound: so many newtons for a force, times the
+-- sections down to the foot for a shear, times the sum of the arms for a moment
 pub record AboveLess (newtons : ℕ) (t : Tower) (first second : List ℕ) : Type 0 where
   pub force : (i : ℕ) → i < length t.sections → get_or first (6 * i + 3) 0 < get_or second (6 * i + 3) 0 + newtons
   pub shear : (i : ℕ) → i < length t.sections → get_or first (6 * i + 4) 0 < get_or second (6 * i + 4) 0 + newtons * (i + 1)

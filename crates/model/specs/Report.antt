@@ -1,4 +1,5 @@
--- Document 01, "The report" and check, for a tower under a wind. A foot is named by the number n of sections down to it.
+-- Document 01, "The report" and check, for a tower under a wind. A foot is named by the number n of sections down to
+-- it.
 use Rattle.std.specs.Prelude.{ℕ, zero, suc, ◌+◌, ◌*◌, ◌-◌, ◌/◌, ◌<◌, ◌≡◌, Bool, true, not, ◌&&◌, List, [], ◌∷◌, ◌++◌, eqb, ltb, length, get_or, take}
 use Rattle.units.specs.declared.Length.{Length}
 use Rattle.units.specs.declared.Force.{Force}
@@ -106,8 +107,8 @@ pub record TopmostOver (t : Tower) (w : Wind) (i : ℕ) : Type 0 where
   pub is-over : IsOver t w i
   pub none_above : (j : ℕ) → j < i → IsOver t w j → ⊥
 
--- the sections over their allowances, from the top; and the topmost of them, or none. By proofs/Topmost `topmost_over` has i
--- exactly if section i is the topmost over, and nothing exactly if none is over
+-- the sections over their allowances, from the top; and the topmost of them, or none. By proofs/Topmost `topmost_over`
+-- has i exactly if section i is the topmost over, and nothing exactly if none is over
 unfoldable pub over_sections : Tower → Wind → List ℕ
 over_sections t w = kept (is_over t w) (list_to (λ i. i) (length t.sections))
 

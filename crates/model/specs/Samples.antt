@@ -1,4 +1,5 @@
--- Document 01's starred sample towers, as one table, and document 02's of M-103. Structure factor 1 000, one section, b = 2 000.
+-- Document 01's starred sample towers, as one table, and document 02's of M-103. Structure factor 1 000, one section, b
+-- = 2 000.
 use Rattle.std.specs.Prelude.{ℕ, ◌+◌, ◌-◌, ◌≡◌, List, [], ◌∷◌}
 use Rattle.exact.specs.Fraction.{Fraction, ◌//◌, whole, ◌·◌, ◌≈◌}
 use Rattle.exact.specs.Rooted.{Rooted, ◌⊙◌, Same}

@@ -1,6 +1,7 @@
 -- Examples of the definitions that stand in the statements of the customer's demands and in no function's promise:
--- arguments of their types, what is lent before a call, the outcome of each call, accepted, the tower newly erected, the
--- sum of the arms, two reports under different pressures. No code fails where one of these is wrong, so an example does.
+-- arguments of their types, what is lent before a call, the outcome of each call, accepted, the tower newly erected,
+-- the sum of the arms, two reports under different pressures. No code fails where one of these is wrong, so an example
+-- does.
 use Rattle.std.specs.Prelude.{ℕ, ◌+◌, ◌≤◌, ◌<◌, ◌≡◌, true, not, List, [], ◌∷◌, ◌++◌, map, get_or, replicate, Some, None, Ok, Err}
 use Rattle.std.proofs.Math.Option.{Option, none, some}
 use Rattle.model.specs.declared.Legs.TheVariants.{Four}
@@ -114,8 +115,8 @@ two_with items = with_items (two_high 4000 6000) items
 abbrev pub wind_over : ℕ → Wind
 wind_over lower = record { direction = 3; ice = 0; factor = 1000; pressures = 500 ∷ lower ∷ [] }
 
--- the numbers of two reports of two sections, 4 000 and 6 000 mm high: force, shear and moment of the upper one and of the
--- lower one, each below the other report's and so much more, or at most the other report's
+-- the numbers of two reports of two sections, 4 000 and 6 000 mm high: force, shear and moment of the upper one and of
+-- the lower one, each below the other report's and so much more, or at most the other report's
 pub record TwoAbove (first second : List ℕ) : Type 0 where
   pub upper_force : get_or first 3 0 < get_or second 3 0 + 2
   pub upper_shear : get_or first 4 0 < get_or second 4 0 + 2
@@ -170,7 +171,8 @@ pub record StatementExamples : Type 0 where
   pub lent-last : lent_last no_tower (erect_four ++ (write (replicate 21 9) ∷ [])) ≡ plain 4 ++ (9 ∷ 9 ∷ [])
   -- the first refusal of a list, whatever comes behind it
   pub first-refusal : first_refusal no_tower (erect_four ++ (steady ∷ report [] ∷ take_down 7 ∷ [])) ≡ 22
-  -- the newly erected tower: the file without its items, its items in this order, its wind, a report; and the state that they lead to
+  -- the newly erected tower: the file without its items, its items in this order, its wind, a report; and the state
+  -- that they lead to
   pub newly : newly_erected (plain_tower (item_of 7 0 300 ∷ item_of 8 0 300 ∷ [])) (item_of 8 0 300 ∷ item_of 7 0 300 ∷ []) second_wind (5 ∷ 6 ∷ [])
       ≡ erect (plain 4) ∷ hang (item_of 8 0 300) ∷ hang (item_of 7 0 300) ∷ wind second_wind ∷ report (5 ∷ 6 ∷ []) ∷ []
   pub newly_stands : run no_tower (newly_erected (plain_tower (item_of 7 0 300 ∷ item_of 8 0 300 ∷ [])) (item_of 8 0 300 ∷ item_of 7 0 300 ∷ []) second_wind (replicate 6 0))

@@ -1,5 +1,5 @@
--- The exact force over whole numbers: what code computes with. It is not of document 01: proofs/WholeForm shows that it is `exact`.
--- e is the open area A_u − A_S, so that no area is subtracted; S = A_S and U = A_u = S + e.
+-- The exact force over whole numbers: what code computes with. It is not of document 01: proofs/WholeForm shows that it
+-- is `exact`. e is the open area A_u − A_S, so that no area is subtracted; S = A_S and U = A_u = S + e.
 use Rattle.std.specs.Prelude.{ℕ, ◌+◌, ◌*◌, ◌-◌, cond, leb}
 use Rattle.units.specs.declared.Area.{Area}
 use Rattle.exact.specs.Surd.{Surd}

@@ -1,5 +1,5 @@
-// Document 01's tower as programs hold it: what the calls take, keep and answer. specs/ has all of document 01 as definitions
-// and says what each of these types means there; proofs/ has their laws.
+// Document 01's tower as programs hold it: what the calls take, keep and answer. specs/ has all of document 01 as
+// definitions and says what each of these types means there; proofs/ has their laws.
 #![tactic(auto)]
 
 ghost use Rattle.std.specs.Prelude.{◌≡◌, ◌^◌, ◌<◌};
@@ -66,7 +66,8 @@ pub struct Section {
     pub groups: ArrayVec<Group, 8>,
 }
 
-// An ancillary item: its number, the section that it hangs on, its size, and its coefficients and position factor K in thousandths.
+// An ancillary item: its number, the section that it hangs on, its size, and its coefficients and position factor K in
+// thousandths.
 #[derive(Clone, Copy, Debug, PartialEq, Eq, Hash, Default)]
 pub struct Item {
     pub number: u16,
