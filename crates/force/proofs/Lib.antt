@@ -1,7 +1,7 @@
 pub mod IncidenceFactor
-pub mod Coefficients
+pub mod FaceSums
 pub mod Quotient
 pub mod Loads
 pub mod Greatest
-pub mod Reported
 pub mod Bounded
+pub mod Reported

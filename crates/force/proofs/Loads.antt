@@ -1,48 +1,38 @@
--- A section that fits under its ice: its areas and the force on it.
+-- A section that stands under its ice: its areas and the force on it.
 use Prim.Native.Nat.{ℕ, ◌≤◌, ◌<◌}
 use mathlib.Core.Path.{◌≡◌}
-use mathlib.Core.Bool.{true}
-use Rattle.units.specs.declared.Length.{Length}
 use Rattle.units.specs.declared.Area.{Area}
 use Rattle.exact.specs.Number.{only, Least}
-use Rattle.model.specs.declared.Legs.{Legs}
-use Rattle.model.specs.declared.Section.{Section}
 use Rattle.model.specs.declared.Areas.{Areas}
 use Rattle.model.specs.Tower.{section_of}
-use Rattle.model.specs.Areas.{areas_of, solid, gross}
+use Rattle.model.specs.Areas.{solid, gross}
 use Rattle.model.specs.Force.{face_force, formula}
 use Rattle.model.proofs.Solid.{solid-of}
 use Rattle.model.proofs.Sections.{SectionFacts, section-facts, solid-positive}
 use Rattle.model.proofs.LesserWinds.{Stands}
-use Rattle.areas.specs.Fits.{fits_under}
-use Rattle.areas.proofs.Fits.{UnderFacts, under-facts}
+use Rattle.areas.proofs.Fits.{under-facts}
+use Rattle.force.specs.declared.section.LoadedSection.{LoadedSection}
+use Rattle.force.specs.Loaded.{areas_in, formula_in}
 
-module _ (t : Length) (q : ℕ) (s : Section) (h : fits_under t s ≡ true) where
-  pub under : UnderFacts t s
-  under = under-facts t s h
+module _ (s : LoadedSection) where
+  pub section-known : SectionFacts (section_of s.section.now)
+  section-known = section-facts (section_of s.section.now) (under-facts s.case.ice.thickness s.section.now s.stands).fits
 
-  pub section-known : SectionFacts (section_of s)
-  section-known = section-facts (section_of s) under.fits
+  -- 0 < A_S ≤ A_u, of the section alone
+  pub stands : Stands s.case.ice.thickness (section_of s.section.now)
+  stands =
+      record {
+        solid = solid-positive s.case.ice.thickness (section_of s.section.now).groups section-known.count.low section-known.groups;
+        under = (under-facts s.case.ice.thickness s.section.now s.stands).solid;
+      }
 
-  -- A_S > 0 and A_S ≤ A_u
-  pub solid-known : (a : Areas) (u : Area) → a ≡ areas_of t q (section_of s).groups → u ≡ gross (section_of s) → (0 < (solid a).0) × ((solid a).0 ≤ u.0)
-  solid-known a u ea eu =
-      rw (ea, eu, solid-of t q (section_of s).groups) (
-        solid-positive t (section_of s).groups section-known.count.low section-known.groups,
-        under.solid,
-      )
+  module _ (q : ℕ) (a : Areas) (ea : a ≡ areas_in s q) where
+    -- and of its areas in a wind
+    pub solid-known : (0 < (solid a).0) × ((solid a).0 ≤ (gross (section_of s.section.now)).0)
+    solid-known = rw (ea, solid-of s.case.ice.thickness q (section_of s.section.now).groups) (stands.solid, stands.under)
 
--- the formula of the section is that of its areas
-pub formula-least : (l : Legs) (k : ℕ) (t : Length) (factor : ℕ) (s : Section) (q items : ℕ) (a : Areas) (u : Area) (n : ℕ)
-    → a ≡ areas_of t q (section_of s).groups → u ≡ gross (section_of s) → Least (only (face_force l k factor q u a items)) n
-    → Least (only (formula l k t factor (section_of s) items q)) n
-unfolding formula
-formula-least l k t factor s q items a u n ea eu g = rw (← ea, ← eu) g
-
--- 0 < A_S ≤ A_u, of the section alone
-pub stands : (t : Length) (s : Section) → fits_under t s ≡ true → Stands t (section_of s)
-stands t s h =
-    record {
-      solid = solid-positive t (section_of s).groups (section-known t 0 s h).count.low (section-known t 0 s h).groups;
-      under = (under t 0 s h).solid;
-    }
+    -- the formula of the section is that of its areas
+    pub formula-least : (u : Area) (n : ℕ) → u ≡ gross (section_of s.section.now)
+        → Least (only (face_force s.case.legs s.case.direction s.case.factor q u a s.items)) n → Least (only (formula_in s q)) n
+    unfolding formula
+    formula-least u n eu g = rw (← ea, ← eu) g

@@ -6,39 +6,43 @@ use native.Mathlib.Omega.{arith}
 use native.Mathlib.Nat.{mul-le-mul, mul-le-mul_left, le_trans, lt_of_le_of_lt}
 use borrow.Author.Tests.{leb-true}
 use Rattle.exact.specs.Number.{only, Least}
+use Rattle.exact.specs.Surd as exact
 use Rattle.exact.specs.Surd.{number, reaches}
 use Rattle.exact.proofs.Compare.{same-sym}
 use Rattle.exact.proofs.Greatest.{least-same}
 use Rattle.exact.proofs.Surds.{number-defined}
 use Rattle.model.specs.declared.Legs.{Legs}
 use Rattle.model.specs.declared.Legs.TheVariants.{Three, Four}
-use Rattle.model.specs.declared.Areas.{Areas}
 use Rattle.model.specs.Areas.{solid, largest_gross}
-use Rattle.model.specs.Force.{largest_items, face_force, largest_force}
-use Rattle.model.specs.WholeForm.{gross_of, incidence_den, incidence_num, face_den, face_num, root_num, whole_form}
+use Rattle.model.specs.Force.{largest_force}
+use Rattle.model.specs.WholeForm.{gross_of, incidence_den, face_den, root_num, whole_form}
 use Rattle.model.proofs.WholeForm.{face-whole}
 use Rattle.model.proofs.FaceForce.{den-positive, face-defined}
 use Rattle.model.proofs.Bounds.{num-bound}
-use Rattle.wide.specs.declared.U256.{U256}
-use Rattle.wide.specs.declared.U512.{U512}
 use Rattle.wide.specs.Value.{value256, value512}
-use Rattle.rounding.specs.Reaching.{surd}
+use Rattle.force.specs.declared.prepared.PreparedFace.{PreparedFace}
+use Rattle.force.specs.declared.prepared.Loading.{Loading}
+use Rattle.force.specs.FaceForce.{force_on, LinearOf}
+use Rattle.rounding.specs.declared.bounds.Linear.{Linear}
+use Rattle.rounding.specs.Reaching.{surd_of}
+use Rattle.rounding.specs.declared.ceiling.Surd.{Surd}
 use Rattle.rounding.proofs.Reach.{whole-reaches}
 
 -- the numerator and the radicand, from the products that code forms
-pub num-sum : (factored inc face items h x y : ℕ) → x ≡ face * inc * factored → y ≡ h * items * factored
-    → x + y ≡ factored * (inc * face + items * h)
-num-sum factored inc face items h x y ex ey = rw (ex, ey) (omega arith)
+pub num-sum : (factor slope g offset divisor x y : ℕ) → x ≡ g * (factor * slope) → y ≡ divisor * (factor * offset)
+    → x + y ≡ factor * (slope * g + offset * divisor)
+num-sum factor slope g offset divisor x y ex ey = rw (ex, ey) (omega arith)
 
-pub radicand-is : (factored inc p u o l r x y : ℕ) → r ≡ factored * 1_000_000 * (p * u) * inc → x ≡ r * o → y ≡ r * l
-    → x * y ≡ factored * inc * 1_000_000 * p * u * (factored * inc * 1_000_000 * p * u) * (o * l)
-radicand-is factored inc p u o l r x y er ex ey =
-    let e : r ≡ factored * inc * 1_000_000 * p * u = omega (arith, er) in
-    rw (ex, ey, ← e) (omega arith)
+pub radicand-is : (factored inc v o l r x y p u root : ℕ) → r ≡ factored * 1_000_000 * v → x ≡ r * (inc * o) → y ≡ r * (inc * l)
+    → v ≡ p * u → o * l ≡ root → x * y ≡ factored * inc * 1_000_000 * p * u * (factored * inc * 1_000_000 * p * u) * root
+radicand-is factored inc v o l r x y p u root er ex ey ev el = rw (ex, ey, er, ev, ← el) (omega arith)
 
 -- no supercritical member: there is no root
 pub no-radicand : (x p u root : ℕ) → p ≡ 0 → ◌≡◌ {A = ℕ} 0 (x * p * u * (x * p * u) * root)
 no-radicand x p u root e = rw e (omega arith)
+
+pub factored-small : (q factor : ℕ) → q ≤ 5000 → factor ≤ 2000 → q * factor ≤ 10_000_000
+factored-small q factor hq hf = mul-le-mul {n₁ = q} {m₁ = factor} {n₂ = 5000} {m₂ = 2000} hq hf
 
 -- bounds of the divisors
 square-bound : (x y : ℕ) → x ≤ largest_gross → y ≤ largest_gross → x * y ≤ largest_gross * largest_gross
@@ -54,51 +58,66 @@ unfolding face_den
 face-den-bound Four U h = omega (arith, square-bound U U h h)
 face-den-bound Three U h = omega (arith, square-bound U U h h)
 
-module _ (l : Legs) (k factor q : ℕ) (a : Areas) (e items : ℕ) where
-  pub num-is : (factored inc face h : ℕ) → factored ≡ q * factor → inc ≡ incidence_num l k a e → face ≡ face_num l a e * 1_000_000
-      → h ≡ incidence_den l (solid a).0 e * face_den l ((solid a).0 + e)
-      → factored * (inc * face + items * h) ≡ (whole_form l k factor q a e items).num
-  unfolding whole_form
-  num-is factored inc face h el ei ef eh = rw (el, ei, ef, eh) (omega arith)
+module _ (p : PreparedFace) (w : Loading) where
+  abbrev pub form : exact.Surd
+  form = whole_form p.legs w.direction w.factor w.pressure p.face.areas p.face.gap.0 w.items
 
-  pub num-room : (solid a).0 + e ≤ largest_gross → q ≤ 5000 → factor ≤ 2000 → items ≤ largest_items
-      → (whole_form l k factor q a e items).num < 2 ^ 256
+  bound : form.num ≤ largest_force * form.den
+  bound = num-bound p.legs w.direction w.factor w.pressure p.face.areas p.face.gap.0 w.items p.face.small w.pressure_small w.factor_small w.items_small
+
+  num-room : form.num < 2 ^ 256
   unfolding whole_form
-  num-room hu hq hf hi =
-      let h : incidence_den l (solid a).0 e * face_den l ((solid a).0 + e) ≤ 2 ^ 63 * 2 ^ 67 =
-      mul-le-mul {n₂ = 2 ^ 63} {m₂ = 2 ^ 67} (incidence-den-bound l (solid a).0 e hu) (face-den-bound l ((solid a).0 + e) hu) in
-      let d : incidence_den l (solid a).0 e * face_den l ((solid a).0 + e) * 1_000_000_000_000_000 ≤ 2 ^ 63 * 2 ^ 67 * 1_000_000_000_000_000 =
+  num-room =
+      let S : ℕ = (solid p.face.areas).0 in
+      let e : ℕ = p.face.gap.0 in
+      let h : incidence_den p.legs S e * face_den p.legs (S + e) ≤ 2 ^ 63 * 2 ^ 67 =
+      mul-le-mul {n₂ = 2 ^ 63} {m₂ = 2 ^ 67} (incidence-den-bound p.legs S e p.face.small) (face-den-bound p.legs (S + e) p.face.small) in
+      let d : incidence_den p.legs S e * face_den p.legs (S + e) * 1_000_000_000_000_000 ≤ 2 ^ 63 * 2 ^ 67 * 1_000_000_000_000_000 =
       mul-le-mul {n₂ = 2 ^ 63 * 2 ^ 67} {m₂ = 1_000_000_000_000_000} h (leb-true 1_000_000_000_000_000 1_000_000_000_000_000 refl) in
-      lt_of_le_of_lt (le_trans (num-bound l k factor q a e items hu hq hf hi) (mul-le-mul_left largest_force d))
-      (leb-true (largest_force * (2 ^ 63 * 2 ^ 67 * 1_000_000_000_000_000) + 1) (2 ^ 256) refl)
+      lt_of_le_of_lt (le_trans bound (mul-le-mul_left largest_force d)) (leb-true (largest_force * (2 ^ 63 * 2 ^ 67 * 1_000_000_000_000_000) + 1) (2 ^ 256) refl)
 
-  pub radicand-of : (factored inc : ℕ) → factored ≡ q * factor → inc ≡ incidence_num l k a e
-      → factored * inc * 1_000_000 * a.supercritical.0 * ((solid a).0 + e) * (factored * inc * 1_000_000 * a.supercritical.0 * ((solid a).0 + e)) * root_num l (solid a).0 e
-      ≡ (whole_form l k factor q a e items).radicand
-  unfolding whole_form
-  radicand-of factored inc el ei = rw (el, ei)
+  -- by the linear function that code forms, at the face's sum
+  module _ (x : Linear) (g : LinearOf p w x) where
+    pub num-is : x.factor * (x.slope * p.sum + x.offset * x.divisor) ≡ form.num
+    unfolding whole_form
+    num-is = rw (g.factor, g.slope, g.offset, g.divisor, p.sum_is, p.divisor_is) (omega arith)
 
-  pub den-is : (h : ℕ) → h ≡ incidence_den l (solid a).0 e * face_den l ((solid a).0 + e)
-      → h * 1_000_000_000_000_000 ≡ (whole_form l k factor q a e items).den
-  unfolding whole_form
-  den-is h eh = rw eh
+    pub num-fits : x.factor * (x.slope * p.sum + x.offset * x.divisor) < 2 ^ 256
+    num-fits = rw num-is num-room
 
-  -- wide numbers with these values
-  module _ (n d : U256) (m : U512) (en : value256 n ≡ (whole_form l k factor q a e items).num)
-      (ed : value256 d ≡ (whole_form l k factor q a e items).den) (em : value512 m ≡ (whole_form l k factor q a e items).radicand)
-      (hs : 0 < (solid a).0) where
-    surd-is : surd n d m ≡ whole_form l k factor q a e items
-    unfolding surd
-    surd-is = rw (en, ed, em)
+    pub radicand-of : x.factor * x.slope * 1_000_000 * p.face.areas.supercritical.0 * ((solid p.face.areas).0 + p.face.gap.0)
+        * (x.factor * x.slope * 1_000_000 * p.face.areas.supercritical.0 * ((solid p.face.areas).0 + p.face.gap.0)) * root_num p.legs (solid p.face.areas).0 p.face.gap.0
+        ≡ form.radicand
+    unfolding whole_form
+    radicand-of = rw (g.factor, g.slope)
 
-    pub den-above : 0 < value256 d
-    den-above = rw ed (den-positive l k factor q a e items hs)
+    pub den-is : x.divisor * 1_000_000_000_000_000 ≡ form.den
+    unfolding whole_form
+    den-is = rw (g.divisor, p.divisor_is)
 
-    pub most-reaches : (solid a).0 + e ≤ largest_gross → q ≤ 5000 → factor ≤ 2000 → items ≤ largest_items → reaches (surd n d m) largest_force ≡ true
-    most-reaches hu hq hf hi = rw surd-is (whole-reaches _ largest_force (num-bound l k factor q a e items hu hq hf hi))
+  -- of a face with members
+  module _ (hs : 0 < (solid p.face.areas).0) where
+    pub den-above : 0 < form.den
+    den-above = den-positive p.legs w.direction w.factor w.pressure p.face.areas p.face.gap.0 w.items hs
 
-    pub least-exact : (f : ℕ) → Least (only (number (surd n d m))) f → Least (only (face_force l k factor q (gross_of a e) a items)) f
+    pub least-exact : (f : ℕ) → Least (only (number form)) f → Least (only (force_on p w)) f
     least-exact f h =
-        let p : _ = den-positive l k factor q a e items hs in
-        let g : Least (only (number (whole_form l k factor q a e items))) f = rw surd-is at h in
-        least-same (number-defined _ p) (face-defined l k factor q (gross_of a e) a items (omega arith) hs) (same-sym (face-whole l k factor q a e items)) g
+        least-same (number-defined _ den-above) (face-defined p.legs w.direction w.factor w.pressure (gross_of p.face.areas p.face.gap.0) p.face.areas w.items (omega arith) hs)
+        (same-sym (face-whole p.legs w.direction w.factor w.pressure p.face.areas p.face.gap.0 w.items)) h
+
+    -- by wide numbers
+    module _ (x : Linear) (g : LinearOf p w x) (v : Surd) (en : value256 v.num ≡ x.factor * (x.slope * p.sum + x.offset * x.divisor))
+        (em : value512 v.radicand
+        ≡ x.factor * x.slope * 1_000_000 * p.face.areas.supercritical.0 * ((solid p.face.areas).0 + p.face.gap.0)
+        * (x.factor * x.slope * 1_000_000 * p.face.areas.supercritical.0 * ((solid p.face.areas).0 + p.face.gap.0)) * root_num p.legs (solid p.face.areas).0 p.face.gap.0)
+        (ed : value256 v.den ≡ x.divisor * 1_000_000_000_000_000) where
+      surd-is : surd_of v ≡ form
+      unfolding surd_of
+      surd-is = rw (en, num-is x g, em, radicand-of x g, ed, den-is x g)
+
+      -- what `ceiling` asks and answers
+      pub ceiling-asks : (0 < value256 v.den) × (reaches (surd_of v) largest_force ≡ true)
+      ceiling-asks = (rw (ed, den-is x g) den-above, rw surd-is (whole-reaches form largest_force bound))
+
+      pub ceiling-gives : (f : ℕ) → Least (only (number (surd_of v))) f → Least (only (force_on p w)) f
+      ceiling-gives f h = least-exact f (rw surd-is at h)

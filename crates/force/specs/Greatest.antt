@@ -1,12 +1,9 @@
--- The greatest of the formula's values at q and in the lesser winds of a section's first n groups.
+-- The greatest of the formula's values under full pressure and in the lesser winds of a section's first n groups.
 use Rattle.std.specs.Prelude.{ℕ, ◌∷◌, map, take}
-use Rattle.units.specs.declared.Length.{Length}
 use Rattle.exact.specs.Number.{Exact}
-use Rattle.model.specs.declared.Legs.{Legs}
-use Rattle.model.specs.declared.Section.{Section}
-use Rattle.model.specs.Tower.{section_of}
 use Rattle.model.specs.Areas.{lesser_winds}
-use Rattle.model.specs.Force.{formula}
+use Rattle.force.specs.Loaded.{formula_in}
+use Rattle.force.specs.declared.section.LoadedSection.{LoadedSection}
 
-unfoldable pub greatest_to : Legs → ℕ → Length → ℕ → Section → ℕ → ℕ → ℕ → Exact
-greatest_to l k t factor s q items n = map (formula l k t factor (section_of s) items) (q ∷ lesser_winds t q (take n s.groups))
+unfoldable pub greatest_to : LoadedSection → ℕ → Exact
+greatest_to s n = map (formula_in s) (s.pressure ∷ lesser_winds s.case.ice.thickness s.pressure (take n s.section.now.groups.items))

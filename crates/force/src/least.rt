@@ -1,85 +1,63 @@
-// The least whole number of newtons that is not below the exact force of a face with these areas.
+// The least whole number of newtons that is not below the exact force of a face, by squares.
 ghost use Rattle.std.specs.Prelude.{◌≡◌, ◌+◌, ◌*◌, ◌^◌, ◌<◌, ◌≤◌};
 ghost use Rattle.exact.specs.Number.{only, Least};
-ghost use Rattle.model.specs.Areas.{solid, largest_gross};
-ghost use Rattle.model.specs.Force.{largest_items, face_force};
+ghost use Rattle.model.specs.Areas.{solid};
 ghost use Rattle.model.specs.WholeForm.{gross_of, root_num};
-ghost use Rattle.force.specs.Prepared.{TermsOf};
-ghost use Rattle.wide.specs.Value.{value128, value256, value512};
+ghost use Rattle.force.specs.FaceForce.{force_on, LinearOf};
+ghost use Rattle.wide.specs.Value.{value256, value512};
 
-use crate::Terms;
-use crate::face::Root;
+use crate::face::FaceAreas;
+use crate::prepared::{Loading, PreparedFace};
+use model::Legs;
 use model::ranges::LARGEST_FORCE;
-use model::{Areas, Legs};
-use units::{Area, Force};
-use wide::{U128, U256, U512};
+use rounding::bounds::Linear;
+use rounding::ceiling::Surd;
+use units::Force;
+use wide::{Digit, U256, U512};
 
-// `factored` is the factored pressure q times structure factor, in thousandths of N/m².
-// factored · (incidence · face + items · divisor)
-fn numerator(factored: u64, incidence: u64, face: U128, items: u64, divisor: U128) -> U256
-    requires { factored * (incidence * value128 face + items * value128 divisor) < 2 ^ 256 }
-    ensures { value256 result ≡ factored * (incidence * value128 face + items * value128 divisor) }
+// factor (slope g + offset divisor)
+fn numerator(x: Linear, g: u128) -> U256
+    requires { x.factor * (x.slope * g + x.offset * x.divisor) < 2 ^ 256 }
+    ensures { value256 result ≡ x.factor * (x.slope * g + x.offset * x.divisor) }
 {
-    let x = wide::product::mul192(wide::product::mul128(face, incidence), factored);
-    let y = wide::product::mul192(wide::product::mul128(divisor, items), factored);
-    wide::product::add256(x, y)
+    let by_face = x.factor as u128 * x.slope as u128;
+    let by_items = x.factor as u128 * x.offset as u128;
+    g.widening_mul(by_face) + x.divisor.widening_mul(by_items)
 }
 
-fn denominator(divisor: U128) -> U256
-    ensures { value256 result ≡ value128 divisor * 1_000_000_000_000_000 }
+// (factored · incidence · 10⁶ · A_p · A_u)² · root
+fn supercritical_radicand(legs: Legs, face: FaceAreas, factored: u64, incidence: u64) -> U512
+    requires { factored ≤ 10_000_000 }
+    ensures { let r = factored * incidence * 1_000_000 * face.areas.supercritical.0 * (gross_of face.areas face.gap.0).0 in value512 result ≡ r * r * root_num legs (solid face.areas).0 face.gap.0 }
 {
-    wide::product::widen192(wide::product::mul128(divisor, 1_000_000_000_000_000))
-}
-
-// (factored · incidence · 10⁶ · p · u)² · root, where p is A_p and u is A_u
-fn supercritical_radicand(factored: u64, incidence: u64, p: u64, u: u64, root: Root) -> U512
-    requires { (factored ≤ 10_000_000) × (p ≤ largest_gross) × (u ≤ largest_gross) }
-    ensures { value512 result ≡ (factored * incidence * 1_000_000 * p * u) * (factored * incidence * 1_000_000 * p * u) * (root.open * root.linear) }
-{
-    let r = wide::product::mul128(wide::product::mul64(factored * 1_000_000, p * u), incidence);
-    let x = wide::product::mul192(r, root.open);
-    let y = wide::product::mul192(r, root.linear);
-    wide::product::product256(x, y)
+    let root = face.root(legs);
+    let r = (factored * 1_000_000) as u128 * face.root_weight() as u128;
+    let x = r.widening_mul(incidence as u128 * root.open as u128);
+    let y = r.widening_mul(incidence as u128 * root.linear as u128);
+    x.widening_mul(y)
 }
 
 // The radicand; there is none to work out without supercritical members.
-fn radicand(legs: Legs, factored: u64, incidence: u64, a: Areas, e: u64) -> U512
-    requires { (factored ≤ 10_000_000) × ((solid a).0 + e ≤ largest_gross) }
-    ensures { value512 result ≡ (factored * incidence * 1_000_000 * a.supercritical.0 * ((solid a).0 + e)) * (factored * incidence * 1_000_000 * a.supercritical.0 * ((solid a).0 + e)) * root_num legs (solid a).0 e }
+fn radicand(legs: Legs, face: FaceAreas, factored: u64, incidence: u64) -> U512
+    requires { factored ≤ 10_000_000 }
+    ensures { let r = factored * incidence * 1_000_000 * face.areas.supercritical.0 * (gross_of face.areas face.gap.0).0 in value512 result ≡ r * r * root_num legs (solid face.areas).0 face.gap.0 }
 {
-    let p = a.supercritical.0;
-    if p == 0 {
-        return wide::product::zero512();
+    if face.areas.supercritical.0 == 0 {
+        U512::zero()
+    } else {
+        supercritical_radicand(legs, face, factored, incidence)
     }
-    let s = a.flat.0 + a.subcritical.0 + p;
-    supercritical_radicand(
-        factored,
-        incidence,
-        p,
-        s + e,
-        crate::face::root_num(legs, s, e),
-    )
 }
 
-// By squares, where there is a root. `gap` is the open area A_u − A_S.
-pub(crate) fn least_force(
-    legs: Legs,
-    k: u32,
-    factor: u32,
-    q: u16,
-    a: Areas,
-    gap: Area,
-    items: u64,
-    x: Terms,
-) -> Force
-    requires nonzero { (0 < (solid a).0) × ((solid a).0 + gap.0 ≤ largest_gross) × (factor ≤ 2000) × (q ≤ 5000) × (items ≤ largest_items) }
-    requires terms_of { TermsOf legs k a gap.0 x }
-    ensures { Least (only (face_force legs k factor q (gross_of a gap.0) a items)) result.0 }
+// By squares, where there is a root.
+pub(crate) fn least_force(p: PreparedFace, w: Loading, x: Linear) -> Force
+    requires { (0 < (solid p.face.areas).0) × LinearOf p w x }
+    ensures { Least (only (force_on p w)) result.0 }
 {
-    let e = gap.0;
-    let factored = (q as u64) * (factor as u64);
-    let n = numerator(factored, x.incidence, x.face, items, x.divisor);
-    let d = denominator(x.divisor);
-    let m = radicand(legs, factored, x.incidence, a, e);
-    Force(rounding::ceiling::ceiling(n, d, m, LARGEST_FORCE))
+    let surd = Surd {
+        num: numerator(x, p.sum),
+        radicand: radicand(p.legs, p.face, x.factor, x.slope),
+        den: x.divisor.widening_mul(1_000_000_000_000_000),
+    };
+    Force(surd.ceiling(LARGEST_FORCE))
 }

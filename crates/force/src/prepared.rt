@@ -1,147 +1,135 @@
 // The force on a face in two steps: what does not depend on direction, pressure and items, and the rest. It is decided
 // by bounds, in numbers of at most 192 bits; what they leave open, by an exact comparison.
-ghost use Rattle.std.specs.Prelude.{◌≡◌, true, ◌+◌, ◌*◌, ◌≤◌, ◌<◌};
-ghost use Rattle.exact.specs.Number.{only, Least};
-ghost use Rattle.model.specs.Areas.{solid, largest_gross};
-ghost use Rattle.model.specs.Force.{largest_items, face_force};
-ghost use Rattle.model.specs.WholeForm.{gross_of};
-ghost use Rattle.wide.specs.Value.{value128};
-ghost use Rattle.rounding.specs.Bounds.{Between, Decides};
-ghost use Rattle.force.specs.Prepared.{Prepared, TermsOf, root_square};
+ghost use Rattle.std.specs.Prelude.{◌≡◌, ◌+◌, ◌*◌, ◌≤◌, ◌<◌, IfSome, IfOk, IsSomeAnd};
+ghost use Rattle.std.proofs.Props.{props};
+ghost use Rattle.model.specs.Areas.{solid};
+ghost use Rattle.model.specs.Force.{largest_items};
+ghost use Rattle.model.specs.WholeForm.{gross_of, incidence_den, face_den, face_num};
+ghost use Rattle.rounding.specs.Bounds.{Between};
+ghost use Rattle.force.specs.Prepared.{root_square};
 
-use crate::incidence::incidence_num;
+use crate::face::FaceAreas;
 use crate::least::least_force;
-use crate::{DecidedForce, PreparedFace, Terms, Way};
-use model::{Areas, Legs};
-use rounding::bounds::{least_beside, least_between};
-use rounding::{Bounds128, Candidate};
-use units::{Area, Force};
-use wide::U128;
+use crate::{DecidedForce, Way};
+use model::Legs;
+use rounding::bounds::{Bounds, Linear};
+use units::Force;
 
-// Bounds of a face's sum less its root.
-fn less_root(legs: Legs, a: Areas, e: u64, sum: U128) -> Bounds128
-    requires { (solid a).0 + e ≤ largest_gross }
-    ensures { result.known ≡ true → Between (value128 sum) (root_square legs a e) (value128 result.low) (value128 result.high) }
-{
-    let p = a.supercritical.0;
-    if p == 0 {
-        return Bounds128 {
-            known: true,
-            low: sum,
-            high: sum,
-        };
-    }
-    let s = a.flat.0 + a.subcritical.0 + p;
-    let root = crate::face::root_num(legs, s, e);
-    let square = wide::product::mul64(root.open, root.linear);
-    rounding::bounds::less_root(sum, p * (s + e), square)
+// What the force on a face takes neither from direction nor from pressure nor from items, as whole numbers: the sum
+// c_f A_f + c_c A_c + 1.9 A_p in millionths of mm², what it is divided by, and bounds of the sum less its root, where
+// these are known.
+#[derive(Clone, Copy)]
+pub struct PreparedFace {
+    pub legs: Legs,
+    pub face: FaceAreas,
+    pub sum: u128,
+    pub divisor: u128,
+    pub less_root: Option<Bounds<u128>>,
+    ghost sum_is: { sum ≡ face_num legs face.areas face.gap.0 * 1_000_000 },
+    ghost divisor_is: { divisor ≡ incidence_den legs (solid face.areas).0 face.gap.0 * face_den legs (gross_of face.areas face.gap.0).0 },
+    ghost bounded: { IfSome less_root (λ b. Between sum (root_square legs face.areas face.gap.0) b.low b.high) } by { Prim.hlevel props },
 }
 
-// `gap` is the open area A_u − A_S.
-pub fn prepare(legs: Legs, a: Areas, gap: Area) -> PreparedFace
-    requires { (solid a).0 + gap.0 ≤ largest_gross }
-    ensures { Prepared legs a gap.0 result }
-{
-    let e = gap.0;
-    let s = a.flat.0 + a.subcritical.0 + a.supercritical.0;
-    let sum = crate::face::face_num(legs, a, e);
-    let divisor = crate::face::divisor(legs, s, e);
-    let bounds = less_root(legs, a, e, sum);
-    let low = bounds.low;
-    let high = bounds.high;
-    PreparedFace {
-        sum,
-        divisor,
-        known: bounds.known,
-        low,
-        high,
+// What loads a face: the wind's direction and structure factor, the pressure on the section, and its items' sum.
+#[derive(Clone, Copy)]
+pub struct Loading {
+    pub direction: u32,
+    pub factor: u32,
+    pub pressure: u16,
+    pub items: u64,
+    ghost factor_small: { factor ≤ 2000 },
+    ghost pressure_small: { pressure ≤ 5000 },
+    ghost items_small: { items ≤ largest_items },
+}
+
+impl FaceAreas {
+    // Bounds of the face's sum less its root, where they are known.
+    fn less_root(self, legs: Legs, sum: u128) -> Option<Bounds<u128>>
+        ensures { IfSome result (λ b. Between sum (root_square legs self.areas self.gap.0) b.low b.high) }
+    {
+        if self.areas.supercritical.0 == 0 {
+            return Some(Bounds {
+                low: sum,
+                high: sum,
+            });
+        }
+        let root = self.root(legs);
+        let square = root.open as u128 * root.linear as u128;
+        rounding::bounds::less_root(sum, self.root_weight(), square)
+    }
+
+    pub fn prepare(self, legs: Legs) -> PreparedFace
+        ensures { (result.legs ≡ legs) × (result.face ≡ self) }
+    {
+        let sum = self.sum(legs);
+        PreparedFace {
+            legs,
+            face: self,
+            sum,
+            divisor: self.divisor(legs),
+            less_root: self.less_root(legs, sum),
+        }
     }
 }
 
-// The least whole number of newtons, where the bounds decide it; `factored` is q times structure factor.
-fn by_bounds(factored: u64, incidence: u64, p: PreparedFace, items: u64) -> Candidate
-    requires { items ≤ largest_items }
-    ensures { result.decided ≡ true → (p.known ≡ true) × Decides factored incidence (value128 p.low) (value128 p.high) (value128 p.divisor) items result.number }
-{
-    if p.known {
-        return least_between(factored, incidence, p.low, p.high, p.divisor, items);
-    }
-    Candidate {
-        decided: false,
-        number: 0,
-    }
-}
+impl PreparedFace {
+    ghost use Rattle.exact.specs.Number.{only, Least};
+    ghost use Rattle.rounding.specs.Bounds.{Decides};
+    ghost use Rattle.force.specs.FaceForce.{force_on, LinearOf};
 
-// The least whole number of newtons by an exact comparison: without a root beside the number that is near, else by
-// squares.
-fn compared(
-    legs: Legs,
-    k: u32,
-    factor: u32,
-    q: u16,
-    a: Areas,
-    gap: Area,
-    items: u64,
-    x: Terms,
-    near: u64,
-) -> DecidedForce
-    requires nonzero { (0 < (solid a).0) × ((solid a).0 + gap.0 ≤ largest_gross) × (factor ≤ 2000) × (q ≤ 5000) × (items ≤ largest_items) }
-    requires terms_of { TermsOf legs k a gap.0 x }
-    ensures { Least (only (face_force legs k factor q (gross_of a gap.0) a items)) result.force.0 }
-{
-    if a.supercritical.0 == 0 {
-        let factored = (q as u64) * (factor as u64);
-        let beside = least_beside(factored, x.incidence, x.face, x.divisor, items, near);
-        if beside.decided {
+    // The least whole number of newtons, where the bounds decide it; else one that should be near it, if there is one.
+    fn by_bounds(self, x: Linear) -> Result<u64, Option<u64>>
+        requires { x.offset ≤ largest_items }
+        ensures { IfOk result (λ f. IsSomeAnd self.less_root (λ b. Decides x.factor x.slope b.low b.high x.divisor x.offset f)) }
+    {
+        x.least_between(self.less_root.ok_or(None)?)
+    }
+
+    // The least whole number of newtons in the wind.
+    pub fn force_in(self, w: Loading) -> DecidedForce
+        requires { 0 < (solid self.face.areas).0 }
+        ensures { Least (only (force_on self w)) result.force.0 }
+    {
+        let factor = w.pressure as u64 * w.factor as u64;
+        if factor == 0 {
             return DecidedForce {
-                force: Force(beside.number),
+                force: Force(0),
+                way: Way::NoPressure,
+            };
+        }
+        let x = Linear {
+            factor,
+            slope: self.face.incidence(self.legs, w.direction),
+            offset: w.items,
+            divisor: self.divisor,
+        };
+        match self.by_bounds(x) {
+            Ok(f) => DecidedForce {
+                force: Force(f),
+                way: Way::Bounds,
+            },
+            Err(near) => self.compared(w, x, near),
+        }
+    }
+
+    // The least whole number of newtons by an exact comparison: without a root beside the number that is near, else by
+    // squares.
+    fn compared(self, w: Loading, x: Linear, near: Option<u64>) -> DecidedForce
+        requires { (0 < (solid self.face.areas).0) × LinearOf self w x }
+        ensures { Least (only (force_on self w)) result.force.0 }
+    {
+        if self.face.areas.supercritical.0 == 0
+            && let Some(n) = near
+            && let Some(f) = x.least_beside(self.sum, n)
+        {
+            return DecidedForce {
+                force: Force(f),
                 way: Way::Quotient,
             };
         }
+        DecidedForce {
+            force: least_force(self, w, x),
+            way: Way::Squares,
+        }
     }
-    let force = least_force(legs, k, factor, q, a, gap, items, x);
-    DecidedForce {
-        force,
-        way: Way::Squares,
-    }
-}
-
-// The least whole number of newtons in direction k.
-pub fn force_in(
-    p: PreparedFace,
-    legs: Legs,
-    k: u32,
-    factor: u32,
-    q: u16,
-    a: Areas,
-    gap: Area,
-    items: u64,
-) -> DecidedForce
-    requires nonzero { (0 < (solid a).0) × ((solid a).0 + gap.0 ≤ largest_gross) × (factor ≤ 2000) × (q ≤ 5000) × (items ≤ largest_items) }
-    requires prepared { Prepared legs a gap.0 p }
-    ensures { Least (only (face_force legs k factor q (gross_of a gap.0) a items)) result.force.0 }
-{
-    let factored = (q as u64) * (factor as u64);
-    if factored == 0 {
-        return DecidedForce {
-            force: Force(0),
-            way: Way::NoPressure,
-        };
-    }
-    let incidence = incidence_num(legs, k, a, gap.0);
-    let f = by_bounds(factored, incidence, p, items);
-    if f.decided {
-        return DecidedForce {
-            force: Force(f.number),
-            way: Way::Bounds,
-        };
-    }
-    let face = p.sum;
-    let divisor = p.divisor;
-    let x = Terms {
-        incidence,
-        face,
-        divisor,
-    };
-    compared(legs, k, factor, q, a, gap, items, x, f.number)
 }

@@ -1,12 +1,16 @@
-use Rattle.std.proofs.Common.{ℕ, ◌*◌, ap, ◌∙◌}
-use Rattle.wide.specs.Value.{value192}
+use Rattle.std.proofs.Common.{◌*◌, refl, arith, ◌∙◌}
+use Rattle.wide.specs.Value.{value256, value512}
+use Rattle.force.proofs.FaceSums.{words-fit}
 use Rattle.force.proofs.Quotient.{radicand-is}
 use Rattle.force.proofs.least.supercritical_radicand.Goals as goal
 
+pub overflow_mul-r-2 : goal.overflow_mul-r-2
+overflow_mul-r-2 c = omega (arith, words-fit (c.args.factored * 1_000_000) c.root_weight.result (omega arith) (omega arith))
+
 pub returns : goal.returns
+unfolding value256 value512
 returns c =
     let s = c.args in
-    let r = c.mul128-r in
-    c.product256.ensures
-    ∙ radicand-is s.factored s.incidence s.p s.u s.root.open s.root.linear (value192 r.result) _ _
-    (r.ensures ∙ ap (λ (x : ℕ). x * s.incidence) c.mul64.ensures) c.mul192-x.ensures c.mul192-y.ensures
+    c.widening_mul.ensures
+    ∙ radicand-is s.factored s.incidence _ _ _ _ _ _ s.face.areas.supercritical.0 _ _ refl
+    c.widening_mul-x.ensures c.widening_mul-y.ensures c.root_weight.ensures c.root-root.ensures
