@@ -1,5 +1,5 @@
 -- Where hang or take down is accepted there are slots that meet its promise.
-use Prim.Native.Nat.{ℕ, ◌+◌, ◌≤◌, ◌<◌}
+use Prim.Native.Nat.{ℕ, ◌+◌, ◌≤◌}
 use mathlib.Core.Path.{◌≡◌, refl, ap, sym, ◌∙◌}
 use mathlib.Core.Bool.{Bool, true, false, not}
 use mathlib.Core.List.{List, [], ◌++◌}
@@ -12,22 +12,20 @@ use Rattle.model.specs.Answers.{accepts}
 use Rattle.std.proofs.Common.{filter}
 use Rattle.model.specs.Lists.{all_of}
 use Rattle.model.specs.File.{numbered}
-use Rattle.model.specs.Machine.{State, standing}
-use Rattle.model.specs.Calls.{Call, hang, take_down, typed_item, refusal_of}
+use Rattle.model.specs.Machine.{State}
+use Rattle.model.specs.Calls.{hang, take_down, typed_item, refusal_of}
 use Rattle.model.proofs.Lists.{all_append, all-parts, all_take, all-kept, length-kept}
 use Rattle.model.proofs.Typed.{item-bounds}
 use Rattle.model.proofs.Forces.{refuse-none}
-use Rattle.model.proofs.Reached.{HangFacts, hang-facts}
-use Rattle.slots.specs.Held.{Slots, slot, is_standing, held_in, items_in, slot_of, tower_in, state_of}
+use Rattle.slots.specs.Held.{Slots, slot, is_standing, held_in, items_in, slot_of, state_of}
 use Rattle.slots.specs.Nexts.{typed_slot, TypedSlots, Next}
 use Rattle.slots.proofs.Codec.{item_back}
-use Rattle.slots.proofs.Grounds.{standing-as, held-few, item_count}
+use Rattle.slots.proofs.Grounds.{standing-as, held-few}
 use Rattle.slots.proofs.TypedSlots.{item-typed}
 use Rattle.slots.proofs.Nexts.{next-cell, typed-cell, slot-typed, typed-set, stands-if}
 use Rattle.item_calls.specs.Places.{has_another}
 use Rattle.item_calls.proofs.ClosingUp.{ClosedUp}
-use Rattle.item_calls.proofs.Recounted.{wind_held}
-use Rattle.item_calls.proofs.WaysOut.{hang-done}
+use Rattle.item_calls.proofs.WaysOut.{room, in-range, hang-done}
 use Rattle.item_calls.proofs.Downs.{down-done}
 
 -- slot 0 tells another number of items
@@ -37,28 +35,20 @@ recount l n = set (slot l 0) 3 n
 recount-typed : (l : Slots) → TypedSlots l → (n : ℕ) → n ≤ 64 → TypedSlots (set l 0 (recount l n))
 recount-typed l t n h = typed-set l t 0 (recount l n) (typed-cell (slot l 0) (slot-typed l t 0 (omega arith)) 3 n (omega arith))
 
--- the refusal over the tower that stands
-free_of : (c : Call) (l : Slots) → is_standing l ≡ true → refusal_of (state_of l) c ≡ 0 → refusal_of (standing (tower_in l) (wind_held l)) c ≡ 0
-free_of c l s z = ap (λ (m : State). refusal_of m c) (sym (standing-as l s)) ∙ z
-
 -- hang
 pub hang-next : (l : Slots) → TypedSlots l → (it : Item) → typed_item it ≡ true → refusal_of (state_of l) (hang it) ≡ 0
     → Next (hang it) l (accepts []) []
 hang-next l t it typed z =
-    let s : is_standing l ≡ true = stands-if (hang it) refl l z in
-    let free : _ = free_of (hang it) l s z in
-    let f : HangFacts (tower_in l) it = hang-facts (tower_in l) (wind_held l) it free in
     let b : _ = item-bounds it typed in
-    let room : held_in l < 64 = omega (arith, f.room, item_count l t.long) in
+    let more : held_in l + 1 ≤ 64 = omega (arith, room l t.long it z) in
     let stored : Slots = set l (65 + held_in l) (slot_of it) in
     let u : TypedSlots stored = typed-set l t (65 + held_in l) (slot_of it) (item-typed it typed) in
     record {
       after = set stored 0 (recount stored (held_in l + 1));
       meets =
-          hang-done l t.long s it room
-          (item_back it b.number b.section b.bare b.iced b.position f.fields) free (recount stored (held_in l + 1))
+          hang-done l t.long it z (item_back it b.number b.section b.bare b.iced b.position (in-range l t.long it z)) (recount stored (held_in l + 1))
           (next-cell (slot stored 0) (slot-typed stored u 0 (omega arith)) 3 (held_in l + 1) (omega arith));
-      typed = recount-typed stored u (held_in l + 1) (omega arith);
+      typed = recount-typed stored u (held_in l + 1) more;
     }
 
 -- take down: the items with another number, and then the slots that stood after as many
@@ -123,7 +113,7 @@ module _ (l : Slots) (t : TypedSlots l) (number : ℕ) where
   down-next z =
       let s : is_standing l ≡ true = stands-if (take_down number) refl l z in
       let there : not (numbered number (items_in l)) ≡ false =
-      (refuse-none (not (numbered number (items_in l))) 14 0 (omega arith) (free_of (take_down number) l s z)).0 in
+      (refuse-none (not (numbered number (items_in l))) 14 0 (omega arith) (ap (λ (m : State). refusal_of m (take_down number)) (sym (standing-as l s)) ∙ z)).0 in
       record {
         after = set closed 0 (recount closed (length others));
         meets =

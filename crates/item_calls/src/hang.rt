@@ -1,7 +1,8 @@
 // One item more.
-ghost use Rattle.std.specs.Prelude.{[]};
-ghost use Rattle.model.specs.Answers.{answer_reply};
+ghost use Rattle.std.specs.Prelude.{◌≡◌, []};
+ghost use Rattle.model.specs.Answers.{answer_number, answer_reply};
 ghost use Rattle.model.specs.Calls as call;
+ghost use Rattle.slots.specs.Held.{state_of};
 ghost use Rattle.slots.specs.Promises.{Meets};
 
 use crate::places::place_of;
@@ -11,15 +12,15 @@ use slots::State;
 use slots::head::{count_in, held_in, is_standing, set_held};
 use slots::items::{ITEMS, item_slot, item_slots};
 
-// The item joins at the end of the list.
-pub fn hang(s: &mut State, item: Item) -> Result<(), Refusal>
-    ensures { Meets (call.hang item) s.old s.new (answer_reply result) [] }
+// Document 01's rules of hang, in their order.
+#[tactic(auto, using(crate::proofs::WaysOut::hang_rules))]
+fn validate(s: &State, item: Item) -> Result<(), Refusal>
+    ensures { answer_number result ≡ call.refusal_of (state_of s.now) (call.hang item) }
 {
     if !is_standing(s) {
         return Err(Refusal::NoTower);
     }
-    let held = held_in(s);
-    if 64 <= held {
+    if 64 <= held_in(s) {
         return Err(Refusal::ItemCount);
     }
     if place_of(item_slots(s), item.number).is_some() {
@@ -31,6 +32,15 @@ pub fn hang(s: &mut State, item: Item) -> Result<(), Refusal>
     if !fields_in_range(item) {
         return Err(Refusal::ItemField);
     }
+    Ok(())
+}
+
+// The item joins at the end of the list.
+pub fn hang(s: &mut State, item: Item) -> Result<(), Refusal>
+    ensures { Meets (call.hang item) s.old s.new (answer_reply result) [] }
+{
+    validate(s, item)?;
+    let held = held_in(s);
     s[ITEMS + held] = item_slot(item);
     set_held(&mut s[0], held + 1);
     Ok(())
