@@ -1,5 +1,5 @@
 -- What the benchmark's function answers.
-use Rattle.std.specs.Prelude.{ℕ, ◌+◌, ◌-◌, ◌%◌, ◌^◌, Bool, cond, ◌&&◌, List, length, ◌==◌, nat_le}
+use Rattle.std.specs.Prelude.{ℕ, ◌+◌, ◌-◌, ◌%◌, ◌^◌, is_none, Bool, cond, ◌&&◌, List, length, ◌==◌, nat_le}
 use Rattle.exact.specs.Number.{ceiling}
 use Rattle.model.specs.Lists.{sum_to}
 use Rattle.model.specs.Tower.{section_of}
@@ -8,7 +8,7 @@ use Rattle.model.specs.File.{legs_of}
 use Rattle.model.specs.Force.{largest_items, exact_force}
 use Rattle.case_words.specs.declared.Case.{Case}
 use Rattle.case_words.specs.Words.{at, case_in}
-use Rattle.case_words.specs.Faults.{fault_of, is_none, groups_end}
+use Rattle.case_words.specs.Faults.{fault_of, groups_end}
 
 -- the least whole force of round i, at the case's pressure less i % 16, with the items' sum
 unfoldable pub force_in : Case → ℕ → ℕ → ℕ

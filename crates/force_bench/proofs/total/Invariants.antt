@@ -3,4 +3,4 @@ use Rattle.force_bench.specs.Words.{total_of}
 use Rattle.force_bench.proofs.total.Given as goal
 
 abbrev pub invariant-loop-i : goal.invariant-loop-i
-invariant-loop-i l = l.sum ≡ total_of l.c l.items l.i
+invariant-loop-i l = l.sum ≡ total_of l.sound.case.now l.items l.i
