@@ -1,11 +1,16 @@
 -- A case's items in slots.
-use Rattle.std.specs.Prelude.{◌≡◌, Bool, true, List, length}
+use Rattle.std.specs.Prelude.{◌≡◌, ℕ, ◌+◌, true, List, map}
 use Rattle.model.specs.declared.Item.{Item}
-use Rattle.model.specs.Lists.{all_of}
+use Rattle.model.specs.Lists.{all_of, list_to}
 use Rattle.model.specs.File.{fields_in_range}
-use Rattle.slots.specs.Held.{Slots, items_to}
+use Rattle.slots.specs.Held.{item_of}
+use Rattle.case_words.specs.Words.{at, item_from}
 
--- the answer says whether all are in range, and then the slots hold them
-pub record ItemsPut (items : List Item) (after : Slots) (answer : Bool) : Type 0 where
-  pub test : answer ≡ all_of fields_in_range items
-  pub put : answer ≡ true → items_to after (length items) ≡ items
+-- the items behind their number at `place`
+abbrev pub items_at : List ℕ → ℕ → List Item
+items_at ws place = list_to (item_from ws (place + 1)) (at ws place)
+
+-- all are in range, and the slots hold them
+pub record HoldsItems (ws : List ℕ) (place : ℕ) (slots : List (List ℕ)) : Type 0 where
+  pub fit : all_of fields_in_range (items_at ws place) ≡ true
+  pub held : map item_of slots ≡ items_at ws place
