@@ -4,7 +4,7 @@ use mathlib.Core.Path.{◌≡◌, refl, ap, sym, ◌∙◌}
 use mathlib.Core.Bool.{true, false}
 use mathlib.Core.List.{List, [], ◌∷◌, ◌++◌, append_assoc}
 use native.Mathlib.Omega.{arith}
-use lib.ListN.{length, take, drop, set, length-append, length-drop, length-take}
+use lib.ListN.{length, drop, length-append, length-drop}
 use lib.Seq.{take_at, drop_at, drop-drop}
 use borrow.Rule.Slice.PartMut.{put_mid, Post-is}
 use Rattle.units.specs.declared.Force.{Force}
@@ -15,24 +15,9 @@ use Rattle.model.proofs.Moments.{shear-none, shear-more, moment-none, moment_mor
 use Rattle.model.proofs.Rows.{rows_more, length-rows}
 use Rattle.model.proofs.Topmost.{topmost-is, topmost-none}
 use Rattle.model.proofs.Says.{none_more}
-use Rattle.rows.specs.declared.Foot.{Foot}
-use Rattle.rows.specs.declared.SectionLoad.{SectionLoad}
+use Rattle.rows.specs.declared.feet.Foot.{Foot}
+use Rattle.rows.specs.declared.loads.SectionLoad.{SectionLoad}
 use Rattle.rows.specs.Loaded.{LoadAt, NextFoot, row_of}
-
--- six stores into a slice of six
-pub six : (l : List ℕ) (a b c d e f : ℕ) → length l ≡ 6 → set (set (set (set (set (set l 0 a) 1 b) 2 c) 3 d) 4 e) 5 f ≡ a ∷ b ∷ c ∷ d ∷ e ∷ f ∷ []
-six [] a b c d e f h = absurd (omega arith)
-six (u ∷ []) a b c d e f h = absurd (omega arith)
-six (u ∷ v ∷ []) a b c d e f h = absurd (omega arith)
-six (u ∷ v ∷ w ∷ []) a b c d e f h = absurd (omega arith)
-six (u ∷ v ∷ w ∷ x ∷ []) a b c d e f h = absurd (omega arith)
-six (u ∷ v ∷ w ∷ x ∷ y ∷ []) a b c d e f h = absurd (omega arith)
-six (u ∷ v ∷ w ∷ x ∷ y ∷ z ∷ []) a b c d e f h = refl
-six (u ∷ v ∷ w ∷ x ∷ y ∷ z ∷ k ∷ l) a b c d e f h = absurd (omega arith)
-
--- the six from a on
-pub part-six : (a : ℕ) (l : List ℕ) → a + 6 ≤ length l → length (take (a + 6 - a) (drop a l)) ≡ 6
-part-six a l h = rw (length-take, length-drop) (omega arith)
 
 module _ (t : Tower) (w : Wind) where
   -- after n sections: the foot of the last, and their rows at the start of the lent slice
@@ -43,12 +28,12 @@ module _ (t : Tower) (w : Wind) where
     pub shear-small : foot.shear.0 ≤ n * largest_force
     pub moment-small : foot.moment.0 ≤ n * (largest_force * 320_000)
 
-  pub written_none : (lent : List ℕ) → Written lent 0 lent (record { shear = record { 0 = 0 }; moment = record { 0 = 0 } })
+  pub written_none : (lent : List ℕ) {foot : Foot} → (foot.shear.0 ≡ 0) × (foot.moment.0 ≡ 0) → Written lent 0 lent foot
   unfolding rows_to
-  written_none lent =
+  written_none lent {foot} e =
       record {
-        shear = sym (shear-none (force_at t w));
-        moment = sym (moment-none (force_at t w) (height_at t));
+        shear = e.0 ∙ sym (shear-none (force_at t w));
+        moment = e.1 ∙ sym (moment-none (force_at t w) (height_at t));
         rows = refl;
         shear-small = omega arith;
         moment-small = omega arith;
@@ -109,19 +94,15 @@ module _ {t : Tower} {w : Wind} {i : ℕ} where
         }
 
   -- is section i over?
-  module _ {above : Force} {own : SectionLoad} (s : Checked t w i above) (a : LoadAt t w i own) where
-    pub exceeds-is : exceeds (record { 0 = above.0 + own.load.force.0 }) own.allowance ≡ is_over t w i
-    exceeds-is =
-        ap (λ (n : ℕ). exceeds (record { 0 = n }) own.allowance) (shear-next t w i s.shear a.force)
-        ∙ ap (exceeds (shear_at t w (i + 1))) a.allowance
+  module _ {above v : Force} {own : SectionLoad} (s : Checked t w i above) (a : LoadAt t w i own) (sum : v.0 ≡ above.0 + own.load.force.0) where
+    next : v.0 ≡ (shear_at t w (i + 1)).0
+    next = sum ∙ shear-next t w i s.shear a.force
 
-    pub checked-next : is_over t w i ≡ false → Checked t w (i + 1) (record { 0 = above.0 + own.load.force.0 })
-    checked-next g =
-        record {
-          shear = shear-next t w i s.shear a.force;
-          small = omega (arith, s.small, a.small);
-          none = none_more i s.none g;
-        }
+    pub exceeds-is : exceeds v own.allowance ≡ is_over t w i
+    exceeds-is = ap (λ (n : ℕ). exceeds (record { 0 = n }) own.allowance) next ∙ ap (exceeds (shear_at t w (i + 1))) a.allowance
+
+    pub checked-next : is_over t w i ≡ false → Checked t w (i + 1) v
+    checked-next g = record { shear = next; small = omega (arith, sum, s.small, a.small); none = none_more i s.none g }
 
   pub over-found : {v : Force} → Checked t w i v → i < length t.sections → is_over t w i ≡ true → i ∷ [] ≡ topmost_over t w
   over-found s h e = sym (topmost-is (record { is-over = record { section = h; over = e }; none_above = s.none }))

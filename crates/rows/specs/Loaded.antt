@@ -2,33 +2,24 @@
 use Rattle.std.specs.Prelude.{ℕ, ◌+◌, ◌*◌, ◌/◌, ◌≤◌, ◌≡◌, true, List, [], ◌∷◌}
 use Rattle.units.specs.declared.Force.{Force}
 use Rattle.units.specs.declared.Length.{Length}
-use Rattle.exact.specs.Number.{Least}
-use Rattle.model.specs.declared.Section as stored
-use Rattle.model.specs.Tower.{Tower, Wind, section_of}
-use Rattle.model.specs.Areas.{thickness, areas_of}
+use Rattle.model.specs.Tower.{Tower, Wind}
+use Rattle.model.specs.Areas.{thickness}
 use Rattle.model.specs.File.{legs_of}
-use Rattle.model.specs.Force.{largest_force, exact_force}
+use Rattle.model.specs.Force.{largest_force}
 use Rattle.model.specs.Report.{section_at, height_at, areas_at, force_at}
 use Rattle.force.specs.declared.Load.{Load}
 use Rattle.slots.specs.Held.{Slots, cell, ground_of, is_windy}
-use Rattle.rows.specs.declared.Foot.{Foot}
-use Rattle.rows.specs.declared.LoadCase.{LoadCase}
-use Rattle.rows.specs.declared.SectionLoad.{SectionLoad}
+use Rattle.force.specs.declared.LoadCase.{LoadCase}
+use Rattle.rows.specs.declared.feet.Foot.{Foot}
+use Rattle.rows.specs.declared.loads.SectionLoad.{SectionLoad}
 
 -- the numbers are those of the wind that stands in the slots
 pub record CaseOf (l : Slots) (c : LoadCase) : Type 0 where
   pub windy : is_windy (ground_of l) ≡ true
   pub legs : c.legs ≡ legs_of (cell l 0 1)
   pub direction : c.direction ≡ cell l 0 5
-  pub ice : c.ice ≡ thickness (cell l 0 6)
+  pub ice : c.ice.thickness ≡ thickness (cell l 0 6)
   pub factor : c.factor ≡ cell l 0 7
-
--- the areas of a section under pressure q, the least whole number of newtons not below its exact force, and its own numbers
-pub record LoadOn (c : LoadCase) (s : stored.Section) (q items : ℕ) (r : SectionLoad) : Type 0 where
-  pub areas : r.load.areas ≡ areas_of c.ice q (section_of s).groups
-  pub force : Least (exact_force c.legs c.direction c.ice c.factor (section_of s) q items) r.load.force.0
-  pub height : r.height ≡ s.height
-  pub allowance : r.allowance ≡ s.allowance
 
 -- the areas and the reported force of section i, and what else the report and the check take from it
 pub record LoadAt (t : Tower) (w : Wind) (i : ℕ) (r : SectionLoad) : Type 0 where

@@ -1,79 +1,93 @@
-// The load on one section.
-ghost use Rattle.std.specs.Prelude.{◌≡◌, true, ◌≤◌, ◌<◌, length};
-ghost use Rattle.model.specs.Areas as areas;
-ghost use Rattle.model.specs.Areas.{areas_of};
-ghost use Rattle.model.specs.Tower.{section_of};
-ghost use Rattle.model.specs.Force.{item_sum, largest_items};
-ghost use Rattle.slots.specs.Held.{cell, ground_of, is_windy, count_in, items_in, tower_in, wind_in};
-ghost use Rattle.areas.specs.Fits.{fits_under};
-ghost use Rattle.rows.specs.Loaded.{CaseOf, LoadOn, LoadAt};
+// The loads on the sections of a tower under the wind that stands.
+ghost use Rattle.rows.specs.Loaded.{CaseOf};
 
-use crate::{LoadCase, SectionLoad};
+use areas::ice::Ice;
 use areas::ranges::measure;
-use areas::section::{section_areas, thickness};
-use force::section::measured_load;
-use model::{Areas, Section};
-use slots::Slot;
+use force::section::LoadedSection;
+use force::{Load, LoadCase};
+use model::Section;
+use slots::State;
 use slots::head::legs_in;
 use slots::sections::{least, section_as};
 use slots::wind::{pressure_at, wind_numbers};
+use units::{Force, Length};
 
-// Of a tower under a wind.
-pub(crate) fn load_case(s: &[Slot]) -> LoadCase
-    requires { (length s.now ≡ 129) × (is_windy (ground_of s.now) ≡ true) }
-    ensures { CaseOf s.now result }
-{
-    let legs = legs_in(s);
-    let w = wind_numbers(s);
-    let ice = thickness(w.ice);
-    LoadCase {
-        legs,
-        direction: w.direction,
-        ice,
-        factor: w.factor,
+// The load on a section, with the section's height and allowance.
+#[derive(Clone, Copy, Debug, PartialEq, Eq, Hash)]
+pub(crate) struct SectionLoad {
+    pub load: Load,
+    pub height: Length,
+    pub allowance: Force,
+}
+
+impl SectionLoad {
+    ghost use Rattle.std.specs.Prelude.{◌≡◌};
+
+    fn new(load: Load, section: &Section) -> SectionLoad
+        ensures { (result.load ≡ load) × (result.height ≡ section.now.height) × (result.allowance ≡ section.now.allowance) }
+    {
+        SectionLoad {
+            load,
+            height: section.height,
+            allowance: section.allowance,
+        }
     }
 }
 
-// The load on a section, with what else of it a row takes.
-fn load_on(case: LoadCase, x: Section, q: u16, areas: Areas, items: u64) -> SectionLoad
-    requires fits { (fits_under case.ice x ≡ true) × (case.factor ≤ 2000) × (q ≤ 5000) × (items ≤ largest_items) }
-    requires measured { areas ≡ areas_of case.ice q (section_of x).groups }
-    ensures { LoadOn case x q items result }
-{
-    let legs = case.legs;
-    let load = measured_load(
-        legs,
-        case.direction,
-        case.ice,
-        case.factor,
-        x,
-        q,
-        areas,
-        items,
-    );
-    let height = x.height;
-    let allowance = x.allowance;
-    SectionLoad {
-        load,
-        height,
-        allowance,
-    }
+// A tower under a wind, as they stand in the slots.
+#[derive(Clone, Copy)]
+pub struct LoadedTower<'a> {
+    pub state: &'a State,
+    pub case: LoadCase,
+    ghost stands: { CaseOf state.now case },
 }
 
-// Section i, read from its slots, with its items' sum. Its areas are worked out while it is tested.
-pub(crate) fn load_at(s: &[Slot], case: LoadCase, i: usize, items: u64) -> SectionLoad
-    requires s_len { (length s.now ≡ 129) × CaseOf s.now case × (i < count_in s.now) }
-    requires value { (items ≡ item_sum (areas.thickness (cell s.now 0 6)) i (items_in s.now)) × (items ≤ largest_items) }
-    ensures { LoadAt (tower_in s.now) (wind_in s.now) i result }
-{
-    let q = pressure_at(s, i);
-    let x = section_as(s, i);
-    let m = measure(case.ice, q, x);
-    if m.stands {
-        let areas = m.areas;
-        return load_on(case, x, q, areas, items);
+impl<'a> LoadedTower<'a> {
+    ghost use Rattle.std.specs.Prelude.{◌≡◌, ◌≤◌, ◌<◌, is_some, IfSome};
+    ghost use Rattle.model.specs.Force.{item_sum, largest_items};
+    ghost use Rattle.slots.specs.Held.{ground_of, is_windy, count_in, items_in, tower_in, wind_in};
+    ghost use Rattle.rows.specs.Loaded.{LoadAt};
+
+    // None where no wind stands.
+    pub fn new(state: &'a State) -> Option<LoadedTower<'a>>
+        ensures stands { is_some result ≡ is_windy (ground_of state.now) }
+        ensures state { IfSome result (λ t. t.state.now ≡ state.now) }
+    {
+        let wind = wind_numbers(state)?;
+        let case = LoadCase {
+            legs: legs_in(state),
+            direction: wind.direction,
+            ice: Ice::of_class(wind.ice),
+            factor: wind.factor,
+        };
+        Some(LoadedTower { state, case })
     }
-    let y = least();
-    let areas = section_areas(case.ice, q, y);
-    load_on(case, y, q, areas, items)
+
+    // Section i, read from its slots, with its items' sum. Its areas are worked out while it is tested.
+    pub(crate) fn load(&self, i: usize, items: u64) -> SectionLoad
+        requires count { i < count_in self.now.state.now }
+        requires items { (items ≡ item_sum self.now.case.ice.thickness i (items_in self.now.state.now)) × (items ≤ largest_items) }
+        ensures { LoadAt (tower_in self.now.state.now) (wind_in self.now.state.now) i result }
+    {
+        let case = self.case;
+        let pressure = pressure_at(self.state, i);
+        let section = section_as(self.state, i);
+        if let Some(areas) = measure(case.ice.thickness, pressure, &section) {
+            let on = LoadedSection {
+                case,
+                section: &section,
+                pressure,
+                items,
+            };
+            return SectionLoad::new(on.measured_load(areas), &section);
+        }
+        let section = least();
+        let on = LoadedSection {
+            case,
+            section: &section,
+            pressure,
+            items,
+        };
+        SectionLoad::new(on.load(), &section)
+    }
 }
