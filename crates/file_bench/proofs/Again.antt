@@ -9,10 +9,9 @@ use lib.Dec.{leb, ltb}
 use lib.ListN.{length, get_or, drop, length-append, length-drop}
 use lib.Seq.{drop-append_seam}
 use borrow.Author.Tests.{lt-ltb, le-ltb, leb-true, leb-false, le-leb, lt-leb}
-use Rattle.model.specs.declared.Answer.TheVariants as answer
+use Rattle.std.specs.Prelude.{Result, Ok, Err}
 use Rattle.model.specs.declared.Refusal.{Refusal}
-use Rattle.model.specs.declared.WriteAnswer.{WriteAnswer}
-use Rattle.model.specs.declared.WriteAnswer.TheVariants as write
+use Rattle.model.specs.declared.Tower as stored
 use Rattle.model.specs.Answers.{refusal_number, write_reply}
 use Rattle.model.specs.Tower.{Tower, tower_of}
 use Rattle.model.specs.Reading.{got, refused}
@@ -23,7 +22,6 @@ use Rattle.model.specs.Calls as call
 use Rattle.model.specs.Calls.{reply_of, lent_after}
 use Rattle.model.proofs.Accepted.{same_bytes}
 use Rattle.model.proofs.Says.{write-length, write-room}
-use Rattle.tower_file.specs.declared.FileRead.{FileRead}
 use Rattle.tower_file.specs.Stored.{ReadsFile}
 use Rattle.tower_file.specs.Written.{WritesFile}
 use Rattle.tower_file.proofs.Filed.{all-bytes}
@@ -37,13 +35,13 @@ module _ (t : Tower) where
   abbrev front : List ℕ → List ℕ
   front lent = file_of t ++ drop (length (file_of t)) lent
 
-  module _ (lent : List ℕ) (w : WriteAnswer) (s : write_reply w ≡ reply_of (standing t none) (call.write lent)) where
+  module _ (lent : List ℕ) (w : Result ℕ Refusal) (s : write_reply w ≡ reply_of (standing t none) (call.write lent)) where
     answer-short : length lent < length (file_of t) → length_in w ≡ 2 ^ 64 - 1
     answer-short h = by_answer w s
       where
-        by_answer : (v : WriteAnswer) → write_reply v ≡ reply_of (standing t none) (call.write lent) → length_in v ≡ 2 ^ 64 - 1
-        by_answer (write.Written n) e = absurd (omega (arith, rw (lt-ltb _ _ h) at (write-length (standing t none) lent (sym e)).0))
-        by_answer (write.Refused r) e = refl
+        by_answer : (v : Result ℕ Refusal) → write_reply v ≡ reply_of (standing t none) (call.write lent) → length_in v ≡ 2 ^ 64 - 1
+        by_answer (Ok n) e = absurd (omega (arith, rw (lt-ltb _ _ h) at (write-length (standing t none) lent (sym e)).0))
+        by_answer (Err r) e = refl
 
     answer-is : length_in w ≡ cond (leb (length (file_of t)) (length lent)) (length (file_of t)) (2 ^ 64 - 1)
     answer-is = by-case (leb (length (file_of t)) (length lent)) refl
@@ -85,33 +83,33 @@ module _ (t : Tower) where
       (λ h. out-enough (front lent) (omega (arith, length_front lent h)) ∙ ap (λ l. file_of t ++ l) (drop-append_seam (file_of t) _))
       (out-short lent)
 
-  pub length-kept : {a b : List ℕ} {v : WriteAnswer} → WritesFile t a b v → length b ≡ length a
+  pub length-kept : {a b : List ℕ} {v : Result ℕ Refusal} → WritesFile t a b v → length b ≡ length a
   length-kept {a} p = ap length p.bytes ∙ length-out a
 
-  pub settled : {a b : List ℕ} {v : WriteAnswer} → WritesFile t a b v → WritesFile t b b v
+  pub settled : {a b : List ℕ} {v : Result ℕ Refusal} → WritesFile t a b v → WritesFile t b b v
   settled {a} p = record { answer = rw (length-kept p) p.answer; bytes = p.bytes ∙ sym (ap out p.bytes ∙ out-again a) }
 
-  pub again : {a b c : List ℕ} {v w : WriteAnswer} → WritesFile t a b v → WritesFile t b c w → WritesFile t a c w
+  pub again : {a b c : List ℕ} {v w : Result ℕ Refusal} → WritesFile t a b v → WritesFile t b c w → WritesFile t a c w
   again {a} p q = record { answer = rw (length-kept p) at q.answer; bytes = q.bytes ∙ ap out p.bytes ∙ out-again a }
 
 -- the whole call
-pub accepted : {file before after : List ℕ} {r : FileRead} {w : WriteAnswer} {n : ℕ} → ((i : ℕ) → get_or file i 0 < 256) → ReadsFile file r
-    → r.answer ≡ answer.Accepted → WritesFile (tower_of r.tower) before after w → n ≡ length_in w → Timed file 1 before after n
+pub accepted : {file before after : List ℕ} {u : stored.Tower} {w : Result ℕ Refusal} → ((i : ℕ) → get_or file i 0 < 256) → ReadsFile file (Ok u)
+    → WritesFile (tower_of u) before after w → Timed file 1 before after (length_in w)
 unfolding is_timed answer_of bytes_of
-accepted {file} {before} {r = r} {w} b p a q e =
-    let t : Tower = tower_of r.tower in
-    let k : read_file file ≡ got t [] = rw a at p.tower in
+accepted {file} {before} {u = u} {w} b p q =
+    let t : Tower = tower_of u in
+    let k : read_file file ≡ got t [] = p.tower in
     let s : file_of t ≡ file = same_bytes file (all-bytes file b) k in
     let room : ℕ = length before in
     record {
-      answer = rw k (e ∙ answer-is t before w q.answer ∙ ap (λ l. cond (leb (length l) room) (length l) (2 ^ 64 - 1)) s);
+      answer = rw k (answer-is t before w q.answer ∙ ap (λ l. cond (leb (length l) room) (length l) (2 ^ 64 - 1)) s);
       bytes = rw k (q.bytes ∙ out-is t before ∙ ap (λ l. cond (leb (length l) room) (l ++ drop (length l) before) before) s);
     }
 
-pub barred : {file lent : List ℕ} {r : FileRead} {e : Refusal} → ReadsFile file r → r.answer ≡ answer.Refused e → Timed file 1 lent lent (2 ^ 64 - 1)
+pub barred : {file lent : List ℕ} {e : Refusal} → ReadsFile file (Err e) → Timed file 1 lent lent (2 ^ 64 - 1)
 unfolding is_timed answer_of bytes_of
-barred {file} {e = e} p a =
-    let k : read_file file ≡ refused (refusal_number e) = rw a at p.tower in
+barred {file} {e = e} p =
+    let k : read_file file ≡ refused (refusal_number e) = p.tower in
     record { answer = rw k; bytes = rw k }
 
 pub no-rounds : {file lent : List ℕ} → Timed file 0 lent lent (2 ^ 64 - 1)

@@ -4,12 +4,12 @@ use mathlib.Core.Path.{◌≡◌, refl, ap, sym, ◌∙◌}
 use mathlib.Core.List.{List, ◌++◌, map, append_assoc}
 use native.Mathlib.Numerals.{add-one}
 use native.Mathlib.Omega.{arith}
+use Rattle.std.proofs.lemmas.List.{map_more}
 use lib.ListN.{length, take, drop, get_or, set, length-append, length-map}
-use lib.Seq.{take_all, take-suc, length-take-le, set_at, drop-cons}
+use lib.Seq.{take_all, length-take-le, set_at, drop-cons}
 use borrow.Author.Tests.{le-leb, lt-leb}
 use Rattle.file_fields.specs.Written.{Puts}
 use Rattle.file_fields.proofs.Fetched.{no_room}
-use Rattle.file_fields.proofs.Loops.{map-append}
 use Rattle.file_fields.proofs.Writing.{puts-long}
 use Rattle.file_bench.specs.Numbers.{number_at, field_numbers, GivesNumbers}
 
@@ -21,7 +21,7 @@ no_number w file at h l = rw (no_room w file at (omega arith)) refl
 pub number_more : (f : ℕ → ℕ) (places before : List ℕ) (i : ℕ) → i < length places → i < length before
     → set (map f (take i places) ++ drop i before) i (f (get_or places i 0)) ≡ map f (take (i + 1) places) ++ drop (i + 1) before
 number_more f places before i h k =
-    rw (add-one, take-suc places i 0 h, map-append, append_assoc, drop-cons before i 0 k)
+    rw (map_more f places i 0 h, add-one, append_assoc, drop-cons before i 0 k)
     (set_at (map f (take i places)) (get_or before i 0) (drop (suc i) before) (f (get_or places i 0)) i (rw length-map (length-take-le i places (omega arith))))
 
 pub numbers-done : (f : ℕ → ℕ) (places : List ℕ) {before after : List ℕ} (i : ℕ) → i ≡ length places → after ≡ map f (take i places) ++ drop i before

@@ -1,15 +1,14 @@
 -- What the benchmark's functions answer, and what they leave in the lent bytes.
-use Rattle.std.specs.Prelude.{ℕ, ◌-◌, ◌^◌, ◌≡◌, Bool, true, false, cond, ◌&&◌, List, ◌++◌, leb, ltb, length, drop}
-use Rattle.model.specs.declared.WriteAnswer.{WriteAnswer}
-use Rattle.model.specs.declared.WriteAnswer.TheVariants as write
+use Rattle.std.specs.Prelude.{ℕ, ◌-◌, ◌^◌, ◌≡◌, Bool, true, false, cond, ◌&&◌, List, ◌++◌, leb, ltb, length, drop, Result, Ok, Err}
+use Rattle.model.specs.declared.Refusal.{Refusal}
 use Rattle.model.specs.Tower.{Tower}
 use Rattle.model.specs.Reading.{Parsed, got, refused}
 use Rattle.model.specs.File.{read_file}
 
 -- write's length, else u64::MAX
-abbrev pub length_in : WriteAnswer → ℕ
-length_in (write.Written n) = n
-length_in (write.Refused e) = 2 ^ 64 - 1
+abbrev pub length_in : Result ℕ Refusal → ℕ
+length_in (Ok n) = n
+length_in (Err e) = 2 ^ 64 - 1
 
 abbrev pub is_accepted : Parsed Tower → Bool
 is_accepted (got t rest) = true

@@ -2,64 +2,56 @@
 #![tactic(auto)]
 
 ghost use Rattle.std.specs.Prelude.{◌≤◌, ◌≡◌, map, length};
-ghost use Rattle.file_fields.specs.Outcomes.{ReadsField};
 ghost use Rattle.file_fields.specs.Written.{Puts};
 ghost use Rattle.model.specs.Tower.{tower_of};
 ghost use Rattle.tower_file.specs.Stored.{ReadsFile};
 ghost use Rattle.tower_file.specs.Written.{WritesFile};
 ghost use Rattle.file_bench.specs.Timed.{length_in, Timed};
-ghost use Rattle.file_bench.specs.Numbers.{number_at, GivesNumbers};
+ghost use Rattle.file_bench.specs.Numbers.{number_at, IsReader, GivesNumbers};
 
-use file_fields::Field;
+use file_fields::Parsed;
 use file_fields::fields::{read_bytes, read_field};
-use model::{Answer, Tower, WriteAnswer};
-use tower_file::FileRead;
+use model::{Refusal, Tower};
 use tower_file::file::{read, write};
 
 // The answer where nothing was written.
 const NONE: u64 = u64::MAX;
 
 // The last of so many readings; there is one at least.
-fn read_times(file: &[u8], times: u64) -> FileRead
+fn read_times(file: &[u8], times: u64) -> Result<Tower, Refusal>
     ensures { ReadsFile file.now result }
 {
     let mut got = read(file);
-    for _ in 1u64..times {
+    for _ in 1..times {
         got = read(file);
     }
     got
 }
 
 // The last of so many writings; there is one at least.
-fn write_times(t: Tower, times: u64, out: &mut [u8]) -> WriteAnswer
-    ensures { WritesFile (tower_of t) out.old out.new result }
+fn write_times(tower: &Tower, times: u64, out: &mut [u8]) -> Result<usize, Refusal>
+    ensures { WritesFile (tower_of tower.now) out.old out.new result }
 {
-    let mut answer = write(t, out);
-    for _ in 1u64..times {
-        answer = write(t, out);
+    let mut answer = write(tower, out);
+    for _ in 1..times {
+        answer = write(tower, out);
     }
     answer
 }
 
-fn length_in(w: WriteAnswer) -> u64
-    ensures { result ≡ length_in w }
+fn length_in(answer: Result<usize, Refusal>) -> u64
+    ensures { result ≡ length_in answer }
 {
-    match w {
-        WriteAnswer::Written(n) => n as u64,
-        WriteAnswer::Refused(_) => NONE,
-    }
+    answer.map_or(NONE, |length| length as u64)
 }
 
 fn timed(file: &[u8], reads: u64, writes: u64, out: &mut [u8]) -> u64
     ensures { Timed file.now 1 out.old out.new result }
 {
-    let got = read_times(file, reads);
-    let answer = got.answer;
-    let tower = got.tower;
-    let Answer::Accepted = answer else {
+    let Ok(tower) = read_times(file, reads) else {
         return NONE;
     };
-    length_in(write_times(tower, writes, out))
+    length_in(write_times(&tower, writes, out))
 }
 
 // Reads the file so many times and writes its tower into out.
@@ -84,63 +76,60 @@ pub extern "C" fn write_bench(file: &[u8], rounds: u64, out: &mut [u8]) -> u64
     timed(file, 1, rounds, out)
 }
 
-// Which reader of fields is timed.
-#[derive(Clone, Copy)]
-enum Reader {
-    // two and four bytes are fetched as one number
-    Word,
-    Byte,
-}
-
-fn read_by(reader: Reader, file: &[u8], at: usize, width: usize) -> Field
-    requires { (at ≤ length file.now) × (width ≤ 4) }
-    ensures { ReadsField width file.now at result }
-{
-    match reader {
-        Reader::Word => read_field(file, at, width),
-        Reader::Byte => read_bytes(file, at, width),
-    }
-}
-
 // The number of the field at a place.
-fn number_at(reader: Reader, file: &[u8], at: usize, width: usize) -> u64
-    requires { (1 ≤ width) × (width ≤ 4) }
+fn number_at<F: Fn(&[u8], usize, usize) -> Parsed<u32>>(
+    read: F,
+    file: &[u8],
+    at: usize,
+    width: usize,
+) -> u64
+    requires reader { IsReader (F.pre read) (F.post read) }
+    requires width { (1 ≤ width) × (width ≤ 4) }
     ensures { result ≡ number_at width file.now at }
 {
     if file.len() < at {
         return NONE;
     }
-    let f = read_by(reader, file, at, width);
-    match f {
-        Field::Value(number, _) => number as u64,
-        Field::Refused(_) => NONE,
+    match read(file, at, width) {
+        Ok((number, _)) => u64::from(number),
+        Err(_) => NONE,
     }
 }
 
 // The numbers of the fields at these places, put at the start of out.
-fn put_numbers(reader: Reader, file: &[u8], places: &[u64], width: usize, out: &mut [u64]) -> usize
-    requires { (1 ≤ width) × (width ≤ 4) × (length places.now ≤ length out.old) }
+fn put_numbers<F: Fn(&[u8], usize, usize) -> Parsed<u32> + Copy>(
+    read: F,
+    file: &[u8],
+    places: &[u64],
+    width: usize,
+    out: &mut [u64],
+) -> usize
+    requires reader { IsReader (F.pre read) (F.post read) }
+    requires width { (1 ≤ width) × (width ≤ 4) }
+    requires room { length places.now ≤ length out.old }
     ensures { Puts (map (number_at width file.now) places.now) out.old out.new result }
 {
-    let count = places.len();
-    for i in 0usize..count {
-        let at = places[i] as usize;
-        out[i] = number_at(reader, file, at, width);
+    for (i, at) in places.iter().enumerate() {
+        out[i] = number_at(read, file, *at as usize, width);
     }
-    count
+    places.len()
 }
 
-fn fields_by(reader: Reader, file: &[u8], twos: &[u64], fours: &[u64], out: &mut [u64]) -> u64
+fn fields_by<F: Fn(&[u8], usize, usize) -> Parsed<u32> + Copy>(
+    read: F,
+    file: &[u8],
+    twos: &[u64],
+    fours: &[u64],
+    out: &mut [u64],
+) -> u64
+    requires { IsReader (F.pre read) (F.post read) }
     ensures { GivesNumbers file.now twos.now fours.now out.old out.new result }
 {
-    if out.len() < twos.len() {
+    if out.len() < twos.len() || out.len() - twos.len() < fours.len() {
         return NONE;
     }
-    if out.len() - twos.len() < fours.len() {
-        return NONE;
-    }
-    let at = put_numbers(reader, file, twos, 2, out);
-    let end = at + put_numbers(reader, file, fours, 4, &mut out[at..]);
+    let at = put_numbers(read, file, twos, 2, out);
+    let end = at + put_numbers(read, file, fours, 4, &mut out[at..]);
     end as u64
 }
 
@@ -155,8 +144,7 @@ pub extern "C" fn word_fields_bench(
 ) -> u64
     ensures { GivesNumbers file.now twos.now fours.now out.old out.new result }
 {
-    let reader = Reader::Word;
-    fields_by(reader, file, twos, fours, out)
+    fields_by(read_field, file, twos, fours, out)
 }
 
 // The same, byte by byte.
@@ -169,6 +157,5 @@ pub extern "C" fn byte_fields_bench(
 ) -> u64
     ensures { GivesNumbers file.now twos.now fours.now out.old out.new result }
 {
-    let reader = Reader::Byte;
-    fields_by(reader, file, twos, fours, out)
+    fields_by(read_bytes, file, twos, fours, out)
 }

@@ -14,7 +14,7 @@ use Rattle.model.specs.Answers.{refusal_number}
 use Rattle.model.specs.Reading.{Parsed, got, refused, ranged}
 use Rattle.model.proofs.Readings.{ranged-got}
 use Rattle.model.proofs.Sections.{in-range}
-use Rattle.file_fields.specs.Outcomes.{Says, ReadsAs}
+use Rattle.file_fields.specs.Outcomes.{ReadsAs}
 
 -- the bytes from a place on, as they are lent
 abbrev pub rest : List ℕ → ℕ → List ℕ
@@ -24,22 +24,23 @@ pub rest-is : (s : List ℕ) (i : ℕ) → rest s i ≡ drop i s
 rest-is s i = take_all (length s - i) (drop i s) (omega (arith, length-drop i s))
 
 -- a part that is read from there: its next place counts from there
-module _ {A : Type 0} (f : List ℕ → Parsed A) (s : List ℕ) (i : ℕ) {B : Type 0} {view : B → A} where
-  pub onward : i ≤ length s → {b : B} {n : ℕ} → ReadsAs view (rest s i) (f (rest s i)) (Ok (b, n)) → Says view s (f (drop i s)) (Ok (b, i + n))
-  onward l {b} {n} h =
+module _ {A : Type 0} (f : List ℕ → Parsed A) (s : List ℕ) (i : ℕ) {R : Type 0} {value : R → A} {next : R → ℕ} where
+  pub onward : i ≤ length s → {r : R} → ReadsAs value next (rest s i) (f (rest s i)) (Ok r)
+      → (f (drop i s) ≡ got (value r) (drop (i + next r) s)) × (i + next r ≤ length s)
+  onward l {r} h =
       let e : rest s i ≡ drop i s = rest-is s i in
-      let k : n ≤ length (drop i s) = subst (λ (t : List ℕ). n ≤ length t) e h.says.1 in (
-        ap f (sym e) ∙ h.says.0 ∙ ap (λ (t : List ℕ). got (view b) (drop n t)) e ∙ ap (got (view b)) (drop-drop n i s),
+      let k : next r ≤ length (drop i s) = subst (λ (t : List ℕ). next r ≤ length t) e h.says.1 in (
+        ap f (sym e) ∙ h.says.0 ∙ ap (λ (t : List ℕ). got (value r) (drop (next r) t)) e ∙ ap (got (value r)) (drop-drop (next r) i s),
         omega (arith, length-drop i s, k),
       )
 
-  pub onward-no : {e : Refusal} → ReadsAs view (rest s i) (f (rest s i)) (Err e) → f (drop i s) ≡ refused (refusal_number e)
+  pub onward-no : {e : Refusal} → ReadsAs value next (rest s i) (f (rest s i)) (Err e) → f (drop i s) ≡ refused (refusal_number e)
   onward-no h = ap f (sym (rest-is s i)) ∙ h.says
 
 -- a refusal that is handed on by `?`
-pub passed_on : {A B : Type 0} (view : B → A) {s : List ℕ} {p : Parsed A} (e : Refusal) (r : Result (B × ℕ) Refusal)
-    → IsErrAnd r (λ y. y ≡ e) → p ≡ refused (refusal_number e) → ReadsAs view s p r
-passed_on view e r h k =
+pub passed_on : {A R : Type 0} (value : R → A) (next : R → ℕ) {s : List ℕ} {p : Parsed A} (e : Refusal) (r : Result R Refusal)
+    → IsErrAnd r (λ y. y ≡ e) → p ≡ refused (refusal_number e) → ReadsAs value next s p r
+passed_on value next e r h k =
     let y = err_from_is_err_and r h in
     rw (y.1, y.2) (record { says = k })
 

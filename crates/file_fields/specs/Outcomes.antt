@@ -4,17 +4,17 @@ use Rattle.model.specs.declared.Refusal.{Refusal}
 use Rattle.model.specs.Answers.{refusal_number}
 use Rattle.model.specs.Reading.{Parsed, got, refused, field}
 
--- a value, which stands for view of it, with the next place, or a refusal: it is what the reading p of the bytes s gives
-abbrev pub Says : {A B : Type 0} → (B → A) → List ℕ → Parsed A → Result (B × ℕ) Refusal → Type 0
-Says view s p (Ok x) = (p ≡ got (view x.0) (drop x.1 s)) × (x.1 ≤ length s)
-Says view s p (Err e) = p ≡ refused (refusal_number e)
+-- it is what the reading p of the bytes s gives: of what is answered, the value that was read and the next place, or a refusal
+abbrev pub Says : {A R : Type 0} → (R → A) → (R → ℕ) → List ℕ → Parsed A → Result R Refusal → Type 0
+Says value next s p (Ok r) = (p ≡ got (value r) (drop (next r) s)) × (next r ≤ length s)
+Says value next s p (Err e) = p ≡ refused (refusal_number e)
 
-pub record ReadsAs {A B : Type 0} (view : B → A) (s : List ℕ) (p : Parsed A) (r : Result (B × ℕ) Refusal) : Type 0 where
-  pub says : Says view s p r
+pub record ReadsAs {A R : Type 0} (value : R → A) (next : R → ℕ) (s : List ℕ) (p : Parsed A) (r : Result R Refusal) : Type 0 where
+  pub says : Says value next s p r
 
--- of a value that stands for itself
+-- of a value with the next place
 abbrev pub Reads : (A : Type 0) → List ℕ → Parsed A → Result (A × ℕ) Refusal → Type 0
-Reads A s p r = ReadsAs (λ (a : A). a) s p r
+Reads A s p r = ReadsAs (λ (x : A × ℕ). x.0) (λ (x : A × ℕ). x.1) s p r
 
 -- a field's number has no more than its bytes
 abbrev pub SmallField : ℕ → Result (ℕ × ℕ) Refusal → Type 0

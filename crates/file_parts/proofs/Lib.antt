@@ -1,3 +1,4 @@
+pub mod Each
 pub mod Lengths
 pub mod Order
 pub mod SoFar

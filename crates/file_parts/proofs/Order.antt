@@ -8,7 +8,6 @@ use lib.ListN.{length, drop}
 use borrow.Author.Tests.{le-leb, lt-leb}
 use Rattle.std.specs.Prelude.{Ok, Err}
 use Rattle.std.proofs.lemmas.List.{map-id}
-use Rattle.arrayvec.specs.ArrayVec.{ArrayVec}
 use Rattle.units.specs.declared.Area.{Area}
 use Rattle.model.specs.declared.Range.{Range}
 use Rattle.model.specs.declared.Group.{Group}
@@ -24,7 +23,8 @@ use Rattle.model.proofs.Readings.{Gives, given, when-got, gives, then-gives, req
 use Rattle.file_fields.specs.Outcomes.{ReadsAs}
 use Rattle.file_parts.specs.declared.sections.Head.{Head}
 use Rattle.file_parts.specs.Parts.{read_head, read_item_rest, read_item_part}
-use Rattle.file_fields.proofs.Answered.{rest, onward, onward-no, ranged-high}
+use Rattle.file_fields.proofs.Answered.{rest, ranged-high}
+use Rattle.file_parts.proofs.Each.{each-behind, each-barred}
 
 -- a reading within a reading, and one behind a rule
 then-then : {A B C : Type 0} (p : Parsed A) (f : A → List ℕ → Parsed B) (g : B → List ℕ → Parsed C)
@@ -86,19 +86,21 @@ items-last s =
     sym (then-then (ranged 1 item_count 9 s₃) (λ held s₄. read_items count held s₄) _)
 
 -- a section's groups, read behind its head
-pub groups-behind : (n : ℕ) (s : List ℕ) (at : ℕ) → at ≤ length s → {groups : ArrayVec Group} {used : ℕ}
-    → ReadsAs (λ (parts : ArrayVec Group). map (λ (g : Group). g) parts.items) (rest s at) (many (λ (l : List Group). read_group) n [] (rest s at)) (Ok (groups, used))
-    → (read_groups n (drop at s) ≡ got groups.items (drop (at + used) s)) × (at + used ≤ length s)
-unfolding read_groups
-groups-behind n s at l {groups} h =
-    let g = onward (many (λ (l : List Group). read_group) n []) s at l h in
-    (rw map-id at g.0, g.1)
+module _ (n : ℕ) (s : List ℕ) (at : ℕ) {none : List Group} (e : none ≡ []) where
+  pub groups-behind : at ≤ length s → {groups : List Group} {used : ℕ}
+      → ReadsAs (λ (next : ℕ). map (λ (g : Group). g) groups) (λ (next : ℕ). next) (rest s at)
+      (many (λ (l : List Group). read_group) n (map (λ (g : Group). g) none) (rest s at)) (Ok used)
+      → (read_groups n (drop at s) ≡ got groups (drop (at + used) s)) × (at + used ≤ length s)
+  unfolding read_groups
+  groups-behind l {groups} h =
+      let all = each-behind (λ (g : Group). g) read_group n s at e l groups h in
+      (rw (map-id groups) at all.0, all.1)
 
-pub groups-barred : (n : ℕ) (s : List ℕ) (at : ℕ) → {e : Refusal}
-    → ReadsAs (λ (parts : ArrayVec Group). map (λ (g : Group). g) parts.items) (rest s at) (many (λ (l : List Group). read_group) n [] (rest s at)) (Err e)
-    → read_groups n (drop at s) ≡ refused (refusal_number e)
-unfolding read_groups
-groups-barred n s at h = onward-no (many (λ (l : List Group). read_group) n []) s at h
+  pub groups-barred : {R : Type 0} {value : R → List Group} {next : R → ℕ} {r : Refusal}
+      → ReadsAs value next (rest s at) (many (λ (l : List Group). read_group) n (map (λ (g : Group). g) none) (rest s at)) (Err r)
+      → read_groups n (drop at s) ≡ refused (refusal_number r)
+  unfolding read_groups
+  groups-barred h = each-barred (λ (g : Group). g) read_group n s at e h
 
 -- what is known of a head that was read
 pub record HeadFacts (h : Head) : Type 0 where

@@ -5,26 +5,24 @@ use mathlib.Core.List.{List, [], ◌∷◌, ◌++◌}
 use native.Mathlib.Nat.{sub-zero}
 use native.Mathlib.Omega.{arith}
 use lib.ListN.{length, drop}
-use Rattle.std.specs.Prelude.{Ok}
-use Rattle.model.specs.Reading.{Parsed, refused, many}
+use Rattle.model.specs.Reading.{Parsed, got, refused, many}
 use Rattle.model.proofs.Readings.{many-done, many-step, many-refused}
-use Rattle.file_fields.specs.Outcomes.{Says}
 
-module _ {A : Type 0} (p : List A → List ℕ → Parsed A) (n : ℕ) (s : List ℕ) where
-  -- i parts were read, which are l, up to a place
+module _ {A : Type 0} (p : List A → List ℕ → Parsed A) (n : ℕ) (before : List A) (s : List ℕ) where
+  -- i parts were read up to a place: they and those before are l
   pub record SoFar (i : ℕ) (l : List A) (at : ℕ) : Type 0 where
     pub within : at ≤ length s
-    pub same : many p n [] s ≡ many p (n - i) l (drop at s)
+    pub same : many p n before s ≡ many p (n - i) l (drop at s)
 
-  pub none_yet : SoFar 0 [] 0
+  pub none_yet : SoFar 0 before 0
   none_yet = record { within = omega arith; same = rw sub-zero refl }
 
   module _ {i : ℕ} {l : List A} {at : ℕ} (so : SoFar i l at) where
-    pub one_more : {a : A} {next : ℕ} → i < n → Says (λ (x : A). x) s (p l (drop at s)) (Ok (a, next)) → SoFar (i + 1) (l ++ (a ∷ [])) next
+    pub one_more : {a : A} {next : ℕ} → i < n → (p l (drop at s) ≡ got a (drop next s)) × (next ≤ length s) → SoFar (i + 1) (l ++ (a ∷ [])) next
     one_more h e = record { within = e.1; same = so.same ∙ many-step p n i h e.0 }
 
-    pub no_more : {m : ℕ} → i < n → p l (drop at s) ≡ refused m → many p n [] s ≡ refused m
+    pub no_more : {m : ℕ} → i < n → p l (drop at s) ≡ refused m → many p n before s ≡ refused m
     no_more h e = so.same ∙ many-refused p n i h e
 
-    pub all_read : n ≤ i → Says (λ (x : List A). x) s (many p n [] s) (Ok (l, at))
+    pub all_read : n ≤ i → (many p n before s ≡ got l (drop at s)) × (at ≤ length s)
     all_read h = (so.same ∙ many-done p n i l (drop at s) h, so.within)

@@ -101,7 +101,7 @@ fn read_item_rest(file: &[u8], sections: usize, number: u16) -> Parsed<Item>
 // So many items. Whether one is read depends on those before it, so read_each does not serve.
 fn read_items(file: &[u8], sections: usize, count: usize) -> Parsed<ArrayVec<Item, 64>>
     requires { count ≤ 64 }
-    ensures { ReadsAs (λ items. items.items) file.now (read_items sections count file.now) result }
+    ensures { ReadsAs (λ read. read.0.items) (λ read. read.1) file.now (read_items sections count file.now) result }
 {
     let mut earlier = Numbered::new();
     let mut at = 0;
@@ -122,7 +122,7 @@ fn read_items(file: &[u8], sections: usize, count: usize) -> Parsed<ArrayVec<Ite
 
 // Their count, then the items.
 pub fn read_item_part(file: &[u8], sections: usize) -> Parsed<ArrayVec<Item, 64>>
-    ensures { ReadsAs (λ items. items.items) file.now (read_item_part sections file.now) result }
+    ensures { ReadsAs (λ read. read.0.items) (λ read. read.1) file.now (read_item_part sections file.now) result }
 {
     let (count, at) = read_ranged(file, 0, 1, ITEM_COUNT, Refusal::ItemCount)?;
     let (items, used) = read_items(&file[at..], sections, count as usize)?;

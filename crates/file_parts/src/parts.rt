@@ -1,5 +1,6 @@
 // Parts of one kind, one behind another.
-ghost use Rattle.std.specs.Prelude.{ℕ, List, [], ◌≤◌, length, map};
+ghost use Rattle.std.specs.Prelude.{ℕ, List, ◌+◌, ◌≤◌, length, map};
+ghost use Rattle.arrayvec.specs.ArrayVec.{array_vec_len};
 ghost use Rattle.model.specs.Lists.{joined};
 ghost use Rattle.model.specs.Reading.{Parsed, many};
 ghost use Rattle.model.specs.Bytes.{bytes};
@@ -9,6 +10,7 @@ ghost use Rattle.file_fields.specs.Written.{Puts};
 use arrayvec::ArrayVec;
 use file_fields::Parsed;
 use file_fields::fields::write_field;
+use model::Refusal;
 
 // What is read from the bytes that remain. A program's value may stand for one of another type.
 pub trait FromBytes {
@@ -19,25 +21,26 @@ pub trait FromBytes {
     ghost reading: { List ℕ → Parsed Value };
 
     fn read(file: &[u8]) -> Parsed<Self>
-        ensures { ReadsAs value_of file.now (reading file.now) result };
+        ensures { ReadsAs (λ read. value_of read.0) (λ read. read.1) file.now (reading file.now) result };
 }
 
-// So many parts, in the file's order.
-pub fn read_each<T: FromBytes + Default + Drop, const N: usize>(
+// Appends so many parts, in the file's order, and answers the place behind them.
+pub fn read_each<T: FromBytes + Drop, const N: usize>(
     file: &[u8],
     count: usize,
-) -> Parsed<ArrayVec<T, N>>
-    requires { count ≤ N }
-    ensures { ReadsAs (λ parts. map T.value_of parts.items) file.now (many (λ earlier. T.reading) count [] file.now) result }
+    parts: &mut ArrayVec<T, N>,
+) -> Result<usize, Refusal>
+    requires { array_vec_len parts.old + count ≤ N }
+    ensures { ReadsAs (λ next. map T.value_of parts.new.items) (λ next. next) file.now
+        (many (λ earlier. T.reading) count (map T.value_of parts.old.items) file.now) result }
 {
-    let mut parts = ArrayVec::new();
     let mut at = 0;
     for _ in 0..count {
         let (part, used) = T::read(&file[at..])?;
         parts.push(part);
         at += used;
     }
-    Ok((parts, at))
+    Ok(at)
 }
 
 // What is written as bytes of its own.

@@ -12,6 +12,7 @@ use crate::parts::{FromBytes, ToBytes, read_each, write_each};
 use areas::face::Face;
 use areas::ice::Ice;
 use areas::section::gross_area;
+use arrayvec::ArrayVec;
 use file_fields::Parsed;
 use file_fields::fields::{read_field, read_ranged, write_field};
 use model::ranges::{GROUP_COUNT, SECTION_HEIGHT, SECTION_WIDTH};
@@ -58,7 +59,8 @@ impl FromBytes for Section {
     // Its bare A_S is tested after its last group.
     fn read(file: &[u8]) -> Parsed<Section> {
         let (head, at) = read_head(file)?;
-        let (groups, used) = read_each(&file[at..], head.count)?;
+        let mut groups = ArrayVec::new();
+        let used = read_each(&file[at..], head.count, &mut groups)?;
         let section = Section {
             width: head.width,
             height: head.height,

@@ -1,14 +1,15 @@
--- The parts of a tower's file, of the tower as a program holds it: of its arrays the elements below the counts.
+-- The parts of a tower's file, of the tower as a program holds it.
 use Prim.Native.Nat.{ℕ, ◌+◌, ◌<◌, ◌≤◌}
-use mathlib.Core.Path.{◌≡◌, ap, sym, ◌∙◌}
+use mathlib.Core.Path.{◌≡◌, refl, ap, sym, ◌∙◌}
 use mathlib.Core.List.{List, [], ◌∷◌, ◌++◌, map, append_assoc}
 use mathlib.Core.Option.{none}
 use native.Mathlib.Omega.{arith}
-use lib.ListN.{length, take, length-append, length-map}
+use lib.ListN.{length, length-append, length-map}
 use borrow.Author.Tests.{lt-ltb, le-ltb}
+use Rattle.std.specs.Prelude.{Ok, Err}
 use Rattle.model.specs.declared.Refusal.TheVariants.{OutputShort}
+use Rattle.model.specs.declared.Section as stored-section
 use Rattle.model.specs.declared.Tower as stored
-use Rattle.model.specs.declared.WriteAnswer.TheVariants as write
 use Rattle.model.specs.Lists.{joined}
 use Rattle.model.specs.Tower.{Tower, section_of, tower_of}
 use Rattle.model.specs.Bytes.{bytes, legs_number, section_bytes, item_bytes, file_of}
@@ -19,30 +20,34 @@ use Rattle.model.proofs.FileLength.{length-bytes}
 use Rattle.model.proofs.Says.{refused-reply, accepted-reply}
 use Rattle.file_fields.specs.Written.{Puts}
 use Rattle.tower_file.specs.Written.{WritesFile}
-use Rattle.file_fields.proofs.Writing.{take_counted}
 
-pub tower-sections : (t : stored.Tower) {k : ℕ} → k ≡ length (tower_of t).sections → map section_of (take k t.sections) ≡ (tower_of t).sections
-tower-sections t e = ap (map section_of) (take_counted t.sections t.count (e ∙ length-map (take t.count t.sections) section_of))
+joined-map : {A B : Type 0} (f : B → List ℕ) (g : A → B) (l : List A) → joined (λ x. f (g x)) l ≡ joined f (map g l)
+unfolding joined
+joined-map f g [] = refl
+joined-map f g (x ∷ l) = ap (λ m. f (g x) ++ m) (joined-map f g l)
+
+abbrev pub stored_bytes : stored-section.Section → List ℕ
+stored_bytes s = section_bytes (section_of s)
 
 -- the file's parts, one after another
-module _ (t : stored.Tower) {n k m : ℕ} (legs : n ≡ legs_number t.legs) (count : k ≡ length (tower_of t).sections) (held : m ≡ length (tower_of t).items) where
-  pub file-parts : (((bytes 1 n ++ bytes 1 k) ++ joined section_bytes (map section_of (take k t.sections))) ++ bytes 1 m) ++ joined item_bytes (take m t.items)
+module _ (t : stored.Tower) where
+  pub file-parts : (((bytes 1 (legs_number t.legs) ++ bytes 1 (length t.sections.items)) ++ joined stored_bytes t.sections.items) ++ bytes 1 (length t.items.items))
+      ++ joined item_bytes t.items.items
       ≡ file_of (tower_of t)
   unfolding file_of
-  file-parts = rw (tower-sections t count, take_counted t.items t.held held, legs, count, held) (simp append_assoc)
+  file-parts = rw (joined-map section_bytes section_of t.sections.items, length-map) (simp append_assoc)
 
-  pub parts-length : 3 + length (joined section_bytes (map section_of (take k t.sections))) + length (joined item_bytes (take m t.items))
-      ≡ length (file_of (tower_of t))
+  pub parts-length : 3 + length (joined stored_bytes t.sections.items) + length (joined item_bytes t.items.items) ≡ length (file_of (tower_of t))
   parts-length = omega (arith, simp (length-append, length-bytes) at (ap length file-parts))
 
 -- the answers of the writer of files
-pub writes-none : (t : Tower) (d : List ℕ) → length d < length (file_of t) → WritesFile t d d (write.Refused OutputShort)
+pub writes-none : (t : Tower) (d : List ℕ) → length d < length (file_of t) → WritesFile t d d (Err OutputShort)
 unfolding filled
 writes-none t d h =
     let e = lt-ltb (length d) (length (file_of t)) h in
     record { answer = sym (refused-reply (standing t none) (call.write d) OutputShort (rw e)); bytes = rw e }
 
-pub writes-all : (t : Tower) {d x : List ℕ} {n : ℕ} → length (file_of t) ≤ length d → Puts (file_of t) d x n → WritesFile t d x (write.Written n)
+pub writes-all : (t : Tower) {d x : List ℕ} {n : ℕ} → length (file_of t) ≤ length d → Puts (file_of t) d x n → WritesFile t d x (Ok n)
 unfolding filled
 writes-all t {d} h p =
     let e = le-ltb (length d) (length (file_of t)) h in

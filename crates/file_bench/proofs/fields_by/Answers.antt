@@ -6,4 +6,4 @@ use Rattle.file_bench.proofs.fields_by.Goals as goal
 
 pub returns : goal.returns
 unfolding field_numbers
-returns c = gives_all (omega arith) (puts-more c.put_numbers-at.ensures c.put_numbers.ensures)
+returns g c = gives_all (omega arith) (puts-more c.put_numbers-at.ensures c.put_numbers.ensures)

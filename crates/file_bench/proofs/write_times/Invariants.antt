@@ -4,4 +4,4 @@ use Rattle.file_bench.proofs.write_times.Given as goal
 
 -- written as once, over what the first writing left
 abbrev pub invariant-loop : goal.invariant-loop
-invariant-loop l = WritesFile (tower_of l.t) l.initial.out l.out l.answer
+invariant-loop l = WritesFile (tower_of l.tower) l.initial.out l.out l.answer

@@ -6,28 +6,28 @@ use Rattle.file_parts.proofs.items.read_item_fields.Goals as goal
 
 pub returns-in_err-width : goal.returns-in_err-width
 unfolding read_item_fields
-returns-in_err-width c = passed_on _ _ _ c.from_residual.ensures.1 (rw c.in_err-width.ensures.says refl)
+returns-in_err-width c = passed_on _ _ _ _ c.from_residual.ensures.1 (rw c.in_err-width.ensures.says refl)
 
 pub returns-in_err-length : goal.returns-in_err-length
 unfolding read_item_fields
-returns-in_err-length c = passed_on _ _ _ c.from_residual-in_err-length.ensures.1 (rw (c.in_ok-width.ensures.says.0, c.in_err-length.ensures.says) refl)
+returns-in_err-length c = passed_on _ _ _ _ c.from_residual-in_err-length.ensures.1 (rw (c.in_ok-width.ensures.says.0, c.in_err-length.ensures.says) refl)
 
 pub returns-in_err-bare : goal.returns-in_err-bare
 unfolding read_item_fields
 returns-in_err-bare c =
-    passed_on _ _ _ c.from_residual-in_err-bare.ensures.1
+    passed_on _ _ _ _ c.from_residual-in_err-bare.ensures.1
     (rw (c.in_ok-width.ensures.says.0, c.in_ok-length.ensures.says.0, c.in_err-bare.ensures.says) refl)
 
 pub returns-in_err-iced : goal.returns-in_err-iced
 unfolding read_item_fields
 returns-in_err-iced c =
-    passed_on _ _ _ c.from_residual-in_err-iced.ensures.1
+    passed_on _ _ _ _ c.from_residual-in_err-iced.ensures.1
     (rw (c.in_ok-width.ensures.says.0, c.in_ok-length.ensures.says.0, c.in_ok-bare.ensures.says.0, c.in_err-iced.ensures.says) refl)
 
 pub returns-in_err-position : goal.returns-in_err-position
 unfolding read_item_fields
 returns-in_err-position c =
-    passed_on _ _ _ c.from_residual-in_err-position.ensures.1
+    passed_on _ _ _ _ c.from_residual-in_err-position.ensures.1
     (rw (c.in_ok-width.ensures.says.0, c.in_ok-length.ensures.says.0, c.in_ok-bare.ensures.says.0, c.in_ok-iced.ensures.says.0, c.in_err-position.ensures.says) refl)
 
 pub overflow_cast-item : goal.overflow_cast-item

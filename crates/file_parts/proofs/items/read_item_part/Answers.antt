@@ -7,7 +7,7 @@ use Rattle.file_parts.proofs.items.read_item_part.Goals as goal
 
 pub returns-in_err-count : goal.returns-in_err-count
 unfolding read_item_part
-returns-in_err-count c = passed_on _ _ _ c.from_residual.ensures.1 (rw c.in_err-count.ensures.says refl)
+returns-in_err-count c = passed_on _ _ _ _ c.from_residual.ensures.1 (rw c.in_err-count.ensures.says refl)
 
 pub read_items-requires : goal.read_items-requires
 read_items-requires c = ranged-high 1 item_count 9 _ c.in_ok-count.ensures.says.0
@@ -16,7 +16,7 @@ pub returns-in_err-items : goal.returns-in_err-items
 unfolding read_item_part
 returns-in_err-items c =
     let no = onward-no (read_items c.args.sections c.in_ok-count.count) c.args.file.now c.in_ok-count.at c.in_err-items.ensures in
-    passed_on _ _ _ c.from_residual-in_err-items.ensures.1 (rw (c.in_ok-count.ensures.says.0, no) refl)
+    passed_on _ _ _ _ c.from_residual-in_err-items.ensures.1 (rw (c.in_ok-count.ensures.says.0, no) refl)
 
 pub returns : goal.returns
 unfolding read_item_part

@@ -19,7 +19,7 @@ pub returns-in_err-item : goal.returns-in_err-item
 unfolding read_item_rest
 returns-in_err-item c =
     let no = onward-no (read_item_fields c.args.number c.in-Ok.section) c.args.file.now c.in-Ok.at c.in_err-item.ensures in
-    passed_on _ _ _ c.from_residual.ensures.1 (rw (c.in-Ok.ensures.0.says.0, lt-ltb _ _ c.if-sections-section.false, no) refl)
+    passed_on _ _ _ _ c.from_residual.ensures.1 (rw (c.in-Ok.ensures.0.says.0, lt-ltb _ _ c.if-sections-section.false, no) refl)
 
 pub returns : goal.returns
 unfolding read_item_rest

@@ -9,7 +9,7 @@ use Rattle.file_parts.proofs.SoFar.{none_yet, one_more, no_more, all_read}
 use Rattle.file_parts.proofs.items.read_items.Goals as goal
 
 pub loop-init : goal.loop-init
-loop-init c = rw c.new-earlier.ensures (refl, none_yet (read_item c.args.sections) c.args.count c.args.file.now)
+loop-init c = rw c.new-earlier.ensures (refl, none_yet (read_item c.args.sections) c.args.count [] c.args.file.now)
 
 pub returns-in_default : goal.returns-in_default
 unfolding read_items
@@ -17,7 +17,7 @@ returns-in_default c =
     let l = c.loop in
     let no = number-first c.args.sections l.earlier.items.items (drop l.at c.args.file.now)
     ∙ rw (field_barred 2 c.args.file.now l.at c.in_default.ensures) refl in
-    record { says = no_more _ _ _ l.invariant.1 c.loop-test.true no }
+    record { says = no_more _ _ _ _ l.invariant.1 c.loop-test.true no }
 
 pub returns-then-contains : goal.returns-then-contains
 unfolding read_items
@@ -25,7 +25,7 @@ returns-then-contains c =
     let l = c.loop in
     let no = number-first c.args.sections l.earlier.items.items (drop l.at c.args.file.now)
     ∙ rw (c.in-Ok.ensures.0.says.0, sym c.if-contains.ensures) refl in
-    record { says = no_more _ _ _ l.invariant.1 c.loop-test.true no }
+    record { says = no_more _ _ _ _ l.invariant.1 c.loop-test.true no }
 
 pub returns-in_err-item : goal.returns-in_err-item
 unfolding read_items
@@ -34,7 +34,7 @@ returns-in_err-item c =
     let rest = read_item_rest c.args.sections c.in-Ok.number in
     let no = number-first c.args.sections l.earlier.items.items (drop l.at c.args.file.now)
     ∙ rw (c.in-Ok.ensures.0.says.0, sym c.if-contains.ensures) (onward-no rest c.args.file.now c.in-Ok.next c.in_err-item.ensures) in
-    passed_on _ _ _ c.from_residual.ensures.1 (no_more _ _ _ l.invariant.1 c.loop-test.true no)
+    passed_on _ _ _ _ c.from_residual.ensures.1 (no_more _ _ _ _ l.invariant.1 c.loop-test.true no)
 
 pub loop-preserved : goal.loop-preserved
 loop-preserved c =
@@ -45,8 +45,8 @@ loop-preserved c =
     ≡ got c.in_ok-item.item (drop (c.in-Ok.next + c.in_ok-item.used) c.args.file.now) =
     number-first _ _ _ ∙ rw (c.in-Ok.ensures.0.says.0, sym c.if-contains.ensures) item.0 in
     let longer = length-append l.earlier.items.items (c.in_ok-item.item ∷ []) in
-    rw c.push.ensures (omega (arith, longer, l.invariant.0), one_more _ _ _ l.invariant.1 c.loop-test.true (read, item.1))
+    rw c.push.ensures (omega (arith, longer, l.invariant.0), one_more _ _ _ _ l.invariant.1 c.loop-test.true (read, item.1))
 
 pub returns : goal.returns
 unfolding read_items
-returns c = record { says = all_read _ _ _ c.loop.invariant.1 c.loop-test.false }
+returns c = record { says = all_read _ _ _ _ c.loop.invariant.1 c.loop-test.false }

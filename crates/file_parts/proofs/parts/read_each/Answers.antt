@@ -1,16 +1,16 @@
-use Rattle.std.proofs.Common.{[], ◌∷◌, refl, arith}
+use Rattle.std.proofs.Common.{[], ◌∷◌, map, arith}
 use Rattle.std.proofs.lemmas.List.{map-append}
 use Rattle.file_fields.proofs.Answered.{onward, onward-no, passed_on}
 use Rattle.file_parts.proofs.SoFar.{none_yet, one_more, no_more, all_read}
 use Rattle.file_parts.proofs.parts.read_each.Goals as goal
 
 pub loop-init : goal.loop-init
-loop-init g c = rw c.new-parts.ensures (refl, none_yet _ c.args.count c.args.file.now)
+loop-init g c = (omega arith, none_yet _ c.args.count (map g.T.FromBytes.value_of c.args.parts.now.items) c.args.file.now)
 
 pub returns-in_err-part : goal.returns-in_err-part
 returns-in_err-part g c =
     let no = onward-no g.T.FromBytes.reading c.args.file.now c.loop.at c.in_err-part.ensures in
-    passed_on _ _ c.from_residual.result c.from_residual.ensures.1 (no_more _ _ _ c.loop.invariant.1 c.loop-test.true no)
+    passed_on _ _ _ c.from_residual.result c.from_residual.ensures.1 (no_more _ _ _ _ c.loop.invariant.1 c.loop-test.true no)
 
 pub loop-preserved : goal.loop-preserved
 loop-preserved g c =
@@ -18,8 +18,9 @@ loop-preserved g c =
     let l = c.loop in
     let read = onward part.reading c.args.file.now l.at l.invariant.1.within c.in_ok-part.ensures in (
       omega (arith, c.push.ensures.len),
-      rw (c.push.ensures.items, map-append part.value_of l.parts.items (c.in_ok-part.part ∷ [])) (one_more _ _ _ l.invariant.1 c.loop-test.true read),
+      rw (c.push.ensures.items, map-append part.value_of l.parts.items (c.in_ok-part.part ∷ []))
+          (one_more _ _ _ _ l.invariant.1 c.loop-test.true read),
     )
 
 pub returns : goal.returns
-returns g c = record { says = all_read _ _ _ c.loop.invariant.1 c.loop-test.false }
+returns g c = record { says = all_read _ _ _ _ c.loop.invariant.1 c.loop-test.false }

@@ -7,12 +7,12 @@ use Rattle.file_parts.proofs.sections.read_head.Goals as goal
 
 pub returns-in_err-width : goal.returns-in_err-width
 unfolding read_head
-returns-in_err-width c = passed_on _ _ _ c.from_residual.ensures.1 (rw c.in_err-width.ensures.says refl)
+returns-in_err-width c = passed_on _ _ _ _ c.from_residual.ensures.1 (rw c.in_err-width.ensures.says refl)
 
 pub returns-in_err-height : goal.returns-in_err-height
 unfolding read_head
 returns-in_err-height c =
-    passed_on _ _ _ c.from_residual-in_err-height.ensures.1 (rw (c.in_ok-width.ensures.says.0, c.in_err-height.ensures.says) refl)
+    passed_on _ _ _ _ c.from_residual-in_err-height.ensures.1 (rw (c.in_ok-width.ensures.says.0, c.in_err-height.ensures.says) refl)
 
 pub returns-then-height-ne0 : goal.returns-then-height-ne0
 unfolding read_head
@@ -35,7 +35,7 @@ returns-in_default c =
 pub returns-in_err-count : goal.returns-in_err-count
 unfolding read_head
 returns-in_err-count c =
-    passed_on _ _ _ c.from_residual-in_err-count.ensures.1
+    passed_on _ _ _ _ c.from_residual-in_err-count.ensures.1
     (rw (
       c.in_ok-width.ensures.says.0,
       c.in_ok-height.ensures.says.0,

@@ -5,16 +5,16 @@ use Rattle.file_parts.proofs.groups.GroupFromBytes.read.Goals as goal
 
 pub returns-in_err-kind : goal.returns-in_err-kind
 unfolding read_group
-returns-in_err-kind c = passed_on _ _ _ c.from_residual.ensures.1 (rw c.in_err-kind.ensures.says refl)
+returns-in_err-kind c = passed_on _ _ _ _ c.from_residual.ensures.1 (rw c.in_err-kind.ensures.says refl)
 
 pub returns-in_err-size : goal.returns-in_err-size
 unfolding read_group
-returns-in_err-size c = passed_on _ _ _ c.from_residual-in_err-size.ensures.1 (rw (c.in_ok-kind.ensures.says.0, c.in_err-size.ensures.says) refl)
+returns-in_err-size c = passed_on _ _ _ _ c.from_residual-in_err-size.ensures.1 (rw (c.in_ok-kind.ensures.says.0, c.in_err-size.ensures.says) refl)
 
 pub returns-in_err-length : goal.returns-in_err-length
 unfolding read_group
 returns-in_err-length c =
-    passed_on _ _ _ c.from_residual-in_err-length.ensures.1
+    passed_on _ _ _ _ c.from_residual-in_err-length.ensures.1
     (rw (c.in_ok-kind.ensures.says.0, c.in_ok-size.ensures.says.0, c.in_err-length.ensures.says) refl)
 
 pub returns : goal.returns
