@@ -1,24 +1,18 @@
 -- The loops that put sections and items into slots, over plain values.
-use Prim.Native.Nat.{ℕ, ◌+◌, ◌*◌, ◌≤◌, ◌<◌}
-use mathlib.Core.Path.{◌≡◌, refl, ap, ◌∙◌}
-use mathlib.Core.Bool.{true}
-use mathlib.Core.List.{List, []}
-use native.Mathlib.Omega.{arith}
-use lib.Dec.{leb}
-use lib.ListN.{length, get_or, set, length-set}
-use lib.Seq.{get_or-set_same, get_or-set_other}
+use Rattle.std.proofs.Common.{◌≡◌, ℕ, ◌+◌, ◌*◌, ◌<◌, List, [], ◌∷◌, ◌++◌, map, length, get_or, set, take, drop, true, refl, ap, sym, ◌∙◌, arith}
+use Rattle.std.proofs.lemmas.Grind.{common_steps}
+use Rattle.std.proofs.lemmas.List.{length-map, length-set, length-drop, get_or-map, get_or-set_other, drop-set-add, take_more, take_more_set}
+use mathlib.Core.List.{map-append}
 use borrow.Author.Count.{below_more}
-use borrow.Author.Tests.{leb-true}
 use Rattle.units.specs.declared.Length.{Length}
 use Rattle.model.specs.declared.Item.{Item}
 use Rattle.model.specs.declared.Section as stored
-use Rattle.model.specs.Tower as tower
-use Rattle.model.specs.Tower.{Section}
+use Rattle.model.specs.Lists.{all_of}
+use Rattle.model.specs.Tower.{Section, section_of}
 use Rattle.model.specs.Valid.{section_fits}
-use Rattle.areas.proofs.Facts.{no_item}
-use Rattle.exact.proofs.Bools.{and_split}
-use Rattle.slots.specs.Held.{Slots, slot, cell, item_of, section_as, section_at, PutSection, PutSections}
-use Rattle.tower_calls.specs.Placed.{section_stored, PutItems}
+use Rattle.model.proofs.Lists.{all-at}
+use Rattle.slots.specs.Held.{Slots, cell, item_of, least_section, section_as, section_at, PutSection, PutSections}
+use Rattle.tower_calls.specs.Placed.{section_in, PutItems}
 
 -- sections and their pressures
 module _ (f : ℕ → Section) (p : ℕ → ℕ) where
@@ -51,21 +45,28 @@ module _ (f : ℕ → Section) (p : ℕ → ℕ) where
   pub section-yet : (t : Length) (i : ℕ) {before mid : Slots} → PutSections f p i before mid → section_at mid t i ≡ section_at before t i
   section-yet t i m = rw (m.below (1 + 2 * i) (omega arith), m.below (1 + 2 * i + 1) (omega arith))
 
-pub stored-facts : (x : stored.Section) → section_stored x ≡ true → (section_fits (tower.section_of x) ≡ true) × (x.count ≤ 8)
-unfolding section_stored
-stored-facts x h = let a : _ = and_split (leb x.count 8) _ h in (a.1, leb-true _ _ a.0)
+-- the section that is read at a place
+module _ (l : List stored.Section) (i : ℕ) (x : stored.Section) (h : i < length l) (is : x ≡ get_or l i x) where
+  pub section-there : section_in (map section_of l) i ≡ section_of x
+  section-there = get_or-map section_of l i x least_section h ∙ ap section_of (sym is)
+
+  pub section-fit : all_of section_fits (map section_of l) ≡ true → section_fits (section_of x) ≡ true
+  section-fit e =
+      ap section_fits (sym section-there) ∙ all-at section_fits (map section_of l) i least_section (omega (arith, length-map l section_of)) e
 
 -- items
-pub items-none : (items : List Item) (l : Slots) → PutItems items 0 l l
-items-none items l = record { long = refl; each = λ k h. absurd (omega arith); beside = λ j h. refl }
+pub items-none : (l : Slots) → PutItems [] l l
+items-none l = record { long = refl; each = refl; beside = λ j h. refl }
 
-pub items_more : (items : List Item) (i : ℕ) (before mid : Slots) (it : List ℕ) → length before ≡ 129 → i < 64 → PutItems items i before mid
-    → item_of it ≡ get_or items i no_item → PutItems items (i + 1) before (set mid (65 + i) it)
-items_more items i before mid it n h p e =
+pub items-more : (items : List Item) (i : ℕ) (d : Item) (before mid : Slots) (it : List ℕ) → length before ≡ 129 → i < 64 → i < length items
+    → PutItems (take i items) before mid → item_of it ≡ get_or items i d → PutItems (take (i + 1) items) before (set mid (65 + i) it)
+items-more items i d before mid it n h k p e =
+    let here : length (take i items) ≡ i = grind (arith, common_steps) in
+    let next : length (take (i + 1) items) ≡ i + 1 = grind (arith, common_steps) in
     record {
       long = length-set mid (65 + i) it ∙ p.long;
-      each = below_more (λ (k : ℕ). item_of (slot (set mid (65 + i) it) (65 + k)) ≡ get_or items k no_item) i
-          (λ k g. ap item_of (get_or-set_other mid (65 + i) (65 + k) it [] (λ z. omega arith)) ∙ p.each k g)
-          (ap item_of (get_or-set_same mid (65 + i) it [] (omega (arith, p.long))) ∙ e);
+      each =
+          rw (next, drop-set-add 65 mid i it, take_more_set (drop 65 mid) i it (omega (arith, length-drop 65 mid, p.long)), map-append, e, take_more items i d k)
+          (ap (λ m. m ++ get_or items i d ∷ []) (rw here at p.each));
       beside = λ j g. get_or-set_other mid (65 + i) j it [] (λ z. omega arith) ∙ p.beside j g;
     }

@@ -1,27 +1,20 @@
 -- A tower that was put into the slots is what they stand for.
-use Prim.Native.Nat.{ℕ, ◌+◌, ◌*◌, ◌≤◌, ◌<◌}
-use mathlib.Core.Path.{◌≡◌, refl, ap, sym, ◌∙◌}
-use mathlib.Core.Bool.{true, false}
-use mathlib.Core.List.{List, [], map}
-use mathlib.Core.Option.{none}
-use native.Mathlib.Omega.{arith}
-use lib.ListN.{length, take, drop, get_or, set, length-set, length-map, length-drop, get_or-map}
-use lib.Seq.{get_or-set_same, get_or-set_other, get_or-drop}
+use Rattle.std.proofs.Common.{◌≡◌, ℕ, ◌+◌, ◌*◌, ◌≤◌, ◌<◌, true, false, [], map, length, take, set, refl, ap, ◌∙◌, arith}
+use Rattle.std.proofs.Math.Option.{none}
+use Rattle.std.proofs.lemmas.List.{get_or-set_same, get_or-set_other, drop-set-lt, take_all}
 use borrow.Author.Tests.{le-leb}
 use Rattle.units.specs.declared.Length.{Length}
-use Rattle.model.specs.declared.Item.{Item}
 use Rattle.model.specs.declared.Legs.{Legs}
 use Rattle.model.specs.declared.Legs.TheVariants.{Three, Four}
-use Rattle.model.specs.declared.Tower as stored-tower
-use Rattle.model.specs.Lists.{all_of, list_to}
-use Rattle.model.specs.Tower as tower
-use Rattle.model.specs.Tower.{Section}
+use Rattle.model.specs.Lists.{list_to}
+use Rattle.model.specs.Ranges.{section_count, item_count}
+use Rattle.model.specs.Tower.{Section, Tower}
 use Rattle.model.specs.File.{legs_of}
 use Rattle.model.specs.Bytes.{legs_number}
 use Rattle.model.specs.Machine.{standing}
-use Rattle.model.proofs.Lists.{taken_at}
-use Rattle.model.proofs.Sections.{section-facts}
-use Rattle.areas.proofs.Facts.{no_item, no_stored}
+use Rattle.model.specs.Valid.{section_fits, ValidTower}
+use Rattle.model.proofs.Lists.{all-at}
+use Rattle.model.proofs.Sections.{in-range, section-facts}
 use Rattle.exact.proofs.Bools.{and-join}
 use Rattle.slots.specs.Held.{
   Slots,
@@ -33,7 +26,9 @@ use Rattle.slots.specs.Held.{
   item_of,
   items_to,
   items_in,
+  least_section,
   stands_under,
+  section_of,
   section_as,
   section_at,
   pressure_at,
@@ -46,11 +41,9 @@ use Rattle.slots.specs.Held.{
   PutSections,
 }
 use Rattle.slots.specs.Promises.{wind_asked}
-use Rattle.slots.proofs.Lists.{within, list-take, list_same, map-take}
-use Rattle.slots.proofs.Codec.{stands-as}
+use Rattle.slots.proofs.Lists.{list-take, list_same}
 use Rattle.slots.proofs.Grounds.{standing-as, sections-are, pressures-are, ice-calm}
-use Rattle.tower_calls.specs.Placed.{section_stored, sections_of, head_of, PutItems}
-use Rattle.tower_calls.proofs.Puts.{stored-facts}
+use Rattle.tower_calls.specs.Placed.{section_in, head_of, PutItems}
 
 -- the tower and the wind in the slots, by their parts
 pub tower-is : (l : Slots)
@@ -65,48 +58,39 @@ wind-is l = rw (pressures-are l)
 -- sections that their slots hold, and that stand under the ice
 pub sections-stand : (l : Slots) (t : Length) (f : ℕ → Section) (n : ℕ) → ((k : ℕ) → k < n → section_as l k ≡ f k)
     → ((k : ℕ) → k < n → stands_under t (f k) ≡ true) → list_to (section_at l t) n ≡ list_to f n
+unfolding section_of
 sections-stand l t f n each stand =
-    list_same (section_at l t) f n
-    (λ k h. stands-as t (slot l (1 + 2 * k)) (slot l (1 + 2 * k + 1)) (ap (stands_under t) (each k h) ∙ stand k h) ∙ each k h)
+    list_same (section_at l t) f n (λ k h. let up = ap (stands_under t) (each k h) ∙ stand k h in rw up (each k h))
 
 legs-back : (l : Legs) → legs_of (legs_number l) ≡ l
 legs-back Three = refl
 legs-back Four = refl
 
--- items that their slots stand for
-items-are : (l : Slots) (items : List Item) (n : ℕ) → length l ≡ 129 → n ≤ 64 → n ≤ length items
-    → ((k : ℕ) → k < n → item_of (slot l (65 + k)) ≡ get_or items k no_item) → items_to l n ≡ take n items
-items-are l items n long few many each =
-    map-take item_of n (drop 65 l)
-    ∙ sym (list-take (λ (k : ℕ). get_or items k no_item) (map item_of (drop 65 l)) (item_of []) n (omega (arith, length-map (drop 65 l) item_of, length-drop 65 l))
-    (λ j h. sym (get_or-map item_of (drop 65 l) j [] ∙ ap item_of (get_or-drop 65 l j []) ∙ each j h)))
-    ∙ list-take (λ (k : ℕ). get_or items k no_item) items no_item n many (λ j h. refl)
-
-module _ (t : stored-tower.Tower) (count : t.count ≤ 32) (held : t.held ≤ 64) (wide : t.count ≤ length t.sections) (tall : t.held ≤ length t.items)
-    (ok : all_of section_stored (take t.count t.sections) ≡ true) (l s₁ s₂ : Slots) (long : length l ≡ 129)
-    (p : PutSections (sections_of t.sections) (λ k. 0) t.count l s₁) (q : PutItems t.items t.held s₁ s₂) where
-  abbrev head : List ℕ
-  head = head_of t.legs t.count t.held
-
+-- a tower that was put
+module _ (t : Tower) (v : ValidTower t) (l s₁ s₂ : Slots) (long : length l ≡ 129)
+    (p : PutSections (section_in t.sections) (λ _. 0) (length t.sections) l s₁) (q : PutItems t.items s₁ s₂) where
   abbrev put : Slots
-  put = set s₂ 0 head
+  put = set s₂ 0 (head_of t)
 
-  put-long : length put ≡ 129
-  put-long = length-set s₂ 0 head ∙ q.long ∙ p.long ∙ long
+  few-sections : length t.sections ≤ 32
+  few-sections = (in-range section_count (length t.sections) v.count).high
 
-  first : slot put 0 ≡ head
-  first = get_or-set_same s₂ 0 head [] (omega (arith, q.long, p.long))
+  few-items : length t.items ≤ 64
+  few-items = (in-range item_count (length t.items) v.held).high
+
+  first : slot put 0 ≡ head_of t
+  first = get_or-set_same s₂ 0 (head_of t) [] (omega (arith, q.long, p.long))
 
   others : (j : ℕ) → 0 < j → slot put j ≡ slot s₂ j
-  others j h = get_or-set_other s₂ 0 j head [] (λ z. omega arith)
+  others j h = get_or-set_other s₂ 0 j (head_of t) [] (λ z. omega arith)
 
-  counted : count_in put ≡ t.count
+  counted : count_in put ≡ length t.sections
   unfolding count_in
-  counted = rw first (within 32 t.count count)
+  counted = rw first (omega (arith, few-sections))
 
-  holds : held_in put ≡ t.held
+  holds : held_in put ≡ length t.items
   unfolding held_in
-  holds = rw first (within 64 t.held held)
+  holds = rw first (omega (arith, few-items))
 
   upright : is_standing put ≡ true
   unfolding is_standing
@@ -116,30 +100,29 @@ module _ (t : stored-tower.Tower) (count : t.count ≤ 32) (held : t.held ≤ 64
   unfolding ground_of
   still = rw first
 
-  section-as : (k : ℕ) → k < t.count → section_as put k ≡ sections_of t.sections k
+  section-as : (k : ℕ) → k < length t.sections → section_as put k ≡ section_in t.sections k
   section-as k h =
-      let a : slot put (1 + 2 * k) ≡ slot s₁ (1 + 2 * k) = others (1 + 2 * k) (omega arith) ∙ q.beside (1 + 2 * k) (omega arith) in
-      let b : slot put (1 + 2 * k + 1) ≡ slot s₁ (1 + 2 * k + 1) = others (1 + 2 * k + 1) (omega arith) ∙ q.beside (1 + 2 * k + 1) (omega arith) in
+      let a : slot put (1 + 2 * k) ≡ slot s₁ (1 + 2 * k) = others (1 + 2 * k) (omega arith) ∙ q.beside (1 + 2 * k) (omega (arith, few-sections)) in
+      let b : slot put (1 + 2 * k + 1) ≡ slot s₁ (1 + 2 * k + 1) =
+      others (1 + 2 * k + 1) (omega arith) ∙ q.beside (1 + 2 * k + 1) (omega (arith, few-sections)) in
       rw (a, b) (p.each k h)
 
   -- each stands bare
-  bare : (k : ℕ) → k < t.count → stands_under (record { 0 = 0 }) (sections_of t.sections k) ≡ true
+  bare : (k : ℕ) → k < length t.sections → stands_under (record { 0 = 0 }) (section_in t.sections k) ≡ true
   bare k h =
-      let f = (stored-facts (get_or t.sections k no_stored) (taken_at section_stored t.sections t.count k no_stored h (omega arith) ok)).0 in
-      and-join f (le-leb _ _ (section-facts (sections_of t.sections k) f).bare)
+      let f = all-at section_fits t.sections k least_section h v.sections in
+      and-join f (le-leb _ _ (section-facts (section_in t.sections k) f).bare)
 
-  sections-put : list_to (section_at put (record { 0 = 0 })) t.count ≡ map tower.section_of (take t.count t.sections)
+  sections-put : list_to (section_at put (record { 0 = 0 })) (length t.sections) ≡ t.sections
   sections-put =
-      sections-stand put (record { 0 = 0 }) (sections_of t.sections) t.count section-as bare
-      ∙ list-take (sections_of t.sections) (map tower.section_of t.sections) (tower.section_of no_stored) t.count
-      (omega (arith, length-map t.sections tower.section_of)) (λ j h. sym (get_or-map tower.section_of t.sections j no_stored))
-      ∙ sym (map-take tower.section_of t.count t.sections)
+      sections-stand put (record { 0 = 0 }) (section_in t.sections) (length t.sections) section-as bare
+      ∙ list-take (section_in t.sections) t.sections least_section (length t.sections) (omega arith) (λ j h. refl)
+      ∙ take_all (length t.sections) t.sections (omega arith)
 
-  items-put : items_to put t.held ≡ take t.held t.items
-  items-put =
-      items-are put t.items t.held put-long held tall (λ k h. ap item_of (others (65 + k) (omega arith)) ∙ q.each k h)
+  items-put : items_to put (length t.items) ≡ t.items
+  items-put = ap (λ (m : Slots). map item_of (take (length t.items) m)) (drop-set-lt 65 s₂ 0 (head_of t) (omega arith)) ∙ q.each
 
-  pub tower-put : state_of put ≡ standing (tower.tower_of t) none
+  pub tower-put : state_of put ≡ standing t none
   tower-put =
       standing-as put upright
       ∙ rw (still, tower-is put, ice-calm put still, first, counted, holds, sections-put, items-put, legs-back t.legs)

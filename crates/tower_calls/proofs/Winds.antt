@@ -1,29 +1,23 @@
--- The rules of wind one by one, over plain values.
-use Prim.Native.Nat.{ℕ, ◌≤◌}
-use mathlib.Core.Path.{◌≡◌, refl, ap, sym, ◌∙◌}
-use mathlib.Core.Bool.{Bool, true, false, cond, not}
-use mathlib.Core.List.{List}
-use mathlib.Core.Option.{none, some}
-use native.Mathlib.Omega.{arith}
-use lib.Dec.{leb, ltb, eqb}
-use lib.ListN.{length}
-use borrow.Author.Tests.{leb-true, leb-false, le-leb, lt-ltb, le-ltb, eq-eqb, ne_eqb}
+-- The rules of wind over the slots.
+use Rattle.std.proofs.Common.{◌≡◌, ℕ, zero, suc, ◌≤◌, Bool, true, false, not, ◌&&◌, ◌||◌, leb, ltb, List, [], ◌∷◌, map, length, eqb, refl, ap, sym, ◌∙◌, add-one, arith}
+use Rattle.std.specs.List.{list_all, range_with_len}
+use Rattle.std.proofs.lemmas.Bool.Decides.{nat_tests}
+use Rattle.std.proofs.lemmas.List.Folds.{list_all-map}
+use Rattle.std.proofs.lemmas.List.FromFn.{map-range_with_len_more}
+use Rattle.std.proofs.Math.Bool.{not-not}
+use borrow.Author.Tests.{leb-true, leb-false, le-leb, lt-ltb, le-ltb}
 use Rattle.units.specs.declared.Length.{Length}
-use Rattle.model.specs.declared.Legs.{Legs}
 use Rattle.model.specs.declared.Section as stored
 use Rattle.model.specs.Lists.{all_of, any_of, list_to}
-use Rattle.model.specs.Ranges.{within, ice_classes, structure_factor, pressures}
 use Rattle.model.specs.Areas.{thickness, gross, solid_of}
+use Rattle.model.specs.Tower.{Section, Wind, section_of}
+use Rattle.model.specs.Ranges.{within, ice_classes, structure_factor, pressures}
 use Rattle.model.specs.File.{legs_of}
-use Rattle.model.specs.Tower as tower
-use Rattle.model.specs.Machine.{State, standing, direction_fits, is_too_solid, wind_refusal}
-use Rattle.model.specs.Calls.{wind, refusal_of}
+use Rattle.model.specs.Machine.{direction_fits, is_too_solid, refuse_if, wind_refusal}
 use Rattle.areas.specs.Fits.{fits_under}
 use Rattle.areas.proofs.Fits.{under-facts}
-use Rattle.slots.specs.Held.{Slots, NextCell, cell, is_standing, count_in, section_at, ground_of, is_windy, ice_on, tower_in, wind_in, state_of}
-use Rattle.slots.specs.Promises.{wind_asked}
-use Rattle.slots.proofs.Grounds.{standing-as, section-count, sections-are}
-use Rattle.slots.proofs.WaysOut.{refusal-of, met, unmet}
+use Rattle.slots.specs.Held.{Slots, NextCell, cell, is_standing, count_in, section_at, ground_of, ice_on, tower_in, state_of}
+use Rattle.slots.proofs.Grounds.{fallen, standing-as, section-count, sections-are}
 use Rattle.tower_calls.specs.Placed.{WindHead}
 
 -- "A_S is at most A_u" is the opposite of "too solid"
@@ -34,14 +28,14 @@ leb-ltb a b = by-case (leb a b) refl
     by-case true e = rw (le-ltb b a (leb-true a b e))
     by-case false e = rw (lt-ltb b a (leb-false a b e))
 
--- of a section that stands under some ice, the test under other ice
-pub under-ice : (t : Length) (ice : ℕ) (s : stored.Section) → ice ≤ 5 → fits_under t s ≡ true
-    → fits_under (thickness ice) s ≡ not (is_too_solid ice (tower.section_of s))
+-- of a section that stands under some ice, the test under ice of a class
+pub under-class : (t : Length) (class : ℕ) (x : stored.Section) {s : Section} {iced : Length} → class ≤ 5 → iced ≡ thickness class
+    → section_of x ≡ s → fits_under t x ≡ true → fits_under iced x ≡ not (is_too_solid class s)
 unfolding fits_under
-under-ice t ice s h e =
-    let f : _ = under-facts t s e in
-    rw (le-leb (thickness ice).0 50 (omega arith), le-leb s.count 8 f.count, f.fits)
-    (leb-ltb (solid_of (thickness ice) (tower.section_of s).groups).0 (gross (tower.section_of s)).0)
+under-class t class x h e k f =
+    let u : _ = under-facts t x f in
+    rw (e, le-leb (thickness class).0 50 (omega arith), u.fits)
+    (leb-ltb (solid_of (thickness class) (section_of x).groups).0 (gross (section_of x)).0 ∙ ap (λ (y : Section). not (is_too_solid class y)) k)
 
 -- slot 0 with the four numbers of a wind, one after another
 pub wind-head : {h a b c d : List ℕ} {k ice factor : ℕ} → NextCell h 4 1 a → NextCell a 5 k b → NextCell b 6 ice c → NextCell c 7 factor d
@@ -55,65 +49,46 @@ wind-head p q r s =
       counts = λ j h. s.others j (λ z. omega arith) ∙ r.others j (λ z. omega arith) ∙ q.others j (λ z. omega arith) ∙ p.others j (λ z. omega arith);
     }
 
-module _ (l : Slots) (s : is_standing l ≡ true) (k ice factor : ℕ) (ps : List ℕ) where
-  abbrev winds : ℕ → Type 0
-  winds n = refusal_of (state_of l) (wind (wind_asked k ice factor ps)) ≡ n
+-- a test of all sections, by their places
+all-not : {A : Type 0} (p : A → Bool) (l : List A) → list_all (λ x. not (p x)) l ≡ not (any_of p l)
+all-not p [] = refl
+all-not p (x ∷ l) = rw (all-not p l) (either (p x) (any_of p l))
+  where
+    either : (a b : Bool) → (not a && not b) ≡ not (a || b)
+    either true b = refl
+    either false b = refl
 
-  abbrev legs : Legs
-  legs = legs_of (cell l 0 1)
+list_to-range : {A : Type 0} (f : ℕ → A) (n : ℕ) → list_to f n ≡ map f (range_with_len 0 n)
+unfolding list_to
+list_to-range f zero = refl
+list_to-range f (suc n) = rw (list_to-range f n) (sym (rw add-one at (map-range_with_len_more f 0 n n (omega arith))))
 
-  abbrev stands : State
-  stands = standing (tower_in l) (cond (is_windy (ground_of l)) (some (wind_in l)) none)
+pub sections-fit : (l : Slots) (class : ℕ)
+    → list_all (λ i. not (is_too_solid class (section_at l (ice_on (ground_of l)) i))) (range_with_len 0 (count_in l))
+    ≡ not (any_of (is_too_solid class) (tower_in l).sections)
+sections-fit l class =
+    let f : ℕ → Section = section_at l (ice_on (ground_of l)) in
+    sym (list_all-map (λ (s : Section). not (is_too_solid class s)) f (range_with_len 0 (count_in l)))
+    ∙ all-not (is_too_solid class) (map f (range_with_len 0 (count_in l)))
+    ∙ ap (λ (m : List Section). not (any_of (is_too_solid class) m)) (sym (sections-are l ∙ list_to-range f (count_in l)))
 
-  from : {n : ℕ} → wind_refusal stands (wind_asked k ice factor ps) ≡ n → winds n
-  from h = refusal-of (wind (wind_asked k ice factor ps)) (standing-as l s) h
+-- the rules over what the slots tell
+pub refusal_fallen : (l : Slots) (w : Wind) → is_standing l ≡ false → wind_refusal (state_of l) w ≡ 1
+refusal_fallen l w s = rw (fallen l s) refl
 
-  pub wind-direction : direction_fits legs k ≡ false → winds 15
-  unfolding ground_of
-  wind-direction e = from (met 15 _ (ap not e))
+pub refusal_told : (l : Slots) (w : Wind) → is_standing l ≡ true
+    → wind_refusal (state_of l) w
+    ≡ refuse_if (not (direction_fits (legs_of (cell l 0 1)) w.direction)) 15
+    (refuse_if (not (within ice_classes w.ice)) 16
+    (refuse_if (not (within structure_factor w.factor)) 17
+    (refuse_if (not (eqb (length w.pressures) (count_in l))) 18
+    (refuse_if (not (all_of (within pressures) w.pressures)) 19
+    (refuse_if (not (all_of (λ i. not (is_too_solid w.ice (section_at l (ice_on (ground_of l)) i))) (range_with_len 0 (count_in l)))) 20 0)))))
+unfolding ground_of
+refusal_told l w s =
+    let solid : any_of (is_too_solid w.ice) (tower_in l).sections
+    ≡ not (all_of (λ i. not (is_too_solid w.ice (section_at l (ice_on (ground_of l)) i))) (range_with_len 0 (count_in l))) =
+    sym (ap not (sections-fit l w.ice) ∙ not-not _) in
+    rw (standing-as l s, section-count l, solid) refl
 
-  module _ (d : direction_fits legs k ≡ true) where
-    pub wind-ice : within ice_classes ice ≡ false → winds 16
-    unfolding ground_of
-    wind-ice e = from (unmet 15 (ap not d) (met 16 _ (ap not e)))
-
-    module _ (i : within ice_classes ice ≡ true) where
-      pub wind-factor : within structure_factor factor ≡ false → winds 17
-      unfolding ground_of
-      wind-factor e = from (unmet 15 (ap not d) (unmet 16 (ap not i) (met 17 _ (ap not e))))
-
-      module _ (f : within structure_factor factor ≡ true) where
-        pub wind-count : (length ps ≡ count_in l → ⊥) → winds 18
-        unfolding ground_of
-        wind-count e =
-            let c : eqb (length ps) (length (tower_in l).sections) ≡ false =
-            ne_eqb (length ps) (length (tower_in l).sections) (λ x. e (x ∙ section-count l)) in
-            from (unmet 15 (ap not d) (unmet 16 (ap not i) (unmet 17 (ap not f) (met 18 _ (ap not c)))))
-
-        module _ (n : length ps ≡ count_in l) where
-          counted : eqb (length ps) (length (tower_in l).sections) ≡ true
-          counted = eq-eqb (length ps) (length (tower_in l).sections) (n ∙ sym (section-count l))
-
-          pub wind-pressure : all_of (within pressures) ps ≡ false → winds 19
-          unfolding ground_of
-          wind-pressure e =
-              from (unmet 15 (ap not d) (unmet 16 (ap not i) (unmet 17 (ap not f) (unmet 18 (ap not counted) (met 19 _ (ap not e))))))
-
-          module _ (p : all_of (within pressures) ps ≡ true) where
-            abbrev pub too_solid : Bool
-            too_solid = any_of (is_too_solid ice) (list_to (section_at l (ice_on (ground_of l))) (count_in l))
-
-            solid : {b : Bool} → too_solid ≡ b → any_of (is_too_solid ice) (tower_in l).sections ≡ b
-            solid e = ap (any_of (is_too_solid ice)) (sections-are l) ∙ e
-
-            pub wind-solid : too_solid ≡ true → winds 20
-            unfolding ground_of
-            wind-solid e =
-                from (unmet 15 (ap not d) (unmet 16 (ap not i) (unmet 17 (ap not f) (unmet 18 (ap not counted) (unmet 19 (ap not p) (met 20 _ (solid e)))))))
-
-            pub wind-free : too_solid ≡ false → winds 0
-            unfolding ground_of
-            wind-free e =
-                from
-                (unmet 15 (ap not d)
-                (unmet 16 (ap not i) (unmet 17 (ap not f) (unmet 18 (ap not counted) (unmet 19 (ap not p) (unmet 20 (solid e) refl))))))
+pub ruleset wind_rules = (refusal_fallen, refusal_told, nat_tests)

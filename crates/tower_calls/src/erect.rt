@@ -1,53 +1,51 @@
 // A tower from its file.
-ghost use Rattle.std.specs.Prelude.{◌≡◌, true, ◌≤◌, length, take};
+ghost use Rattle.std.specs.Prelude.{◌≡◌, true, ◌≤◌, length, map};
 ghost use Rattle.std.proofs.Math.Option.{none};
 ghost use Rattle.model.specs.Lists.{all_of};
 ghost use Rattle.model.specs.File.{fields_in_range};
 ghost use Rattle.model.specs.Answers.{answer_reply};
 ghost use Rattle.model.specs.Machine.{standing};
 ghost use Rattle.model.specs.Calls as call;
-ghost use Rattle.model.specs.Tower as tower;
+ghost use Rattle.model.specs.Tower.{section_of, tower_of};
+ghost use Rattle.model.specs.Valid.{section_fits, ValidTower};
 ghost use Rattle.slots.specs.Held.{state_of, PutSections};
 ghost use Rattle.slots.specs.Promises.{Meets};
-ghost use Rattle.tower_calls.specs.Placed.{section_stored, sections_of, head_of, PutItems};
+ghost use Rattle.tower_calls.specs.Placed.{section_in, head_of, PutItems};
 
-use model::numbers::legs_number;
-use model::{Answer, Item, Legs, Section, Tower};
-use slots::Slot;
-use slots::items::item_slot;
+use model::{Item, Refusal, Section, Tower};
+use slots::items::{ITEMS, item_slot};
 use slots::sections::put_section;
+use slots::{Slot, State};
 
-fn put_sections(s: &mut [Slot], sections: [Section; 32], count: usize)
-    requires { (length s.old ≡ 129) × (count ≤ 32) × (all_of section_stored (take count sections) ≡ true) }
-    ensures { PutSections (sections_of sections) (λ k. 0) count s.old s.new }
+fn put_sections(s: &mut State, sections: &[Section])
+    requires few { length sections.now ≤ 32 }
+    requires fit { all_of section_fits (map section_of sections.now) ≡ true }
+    ensures { PutSections (section_in (map section_of sections.now)) (λ _. 0) (length sections.now) s.old s.new }
 {
-    for i in 0usize..count {
-        let x = sections[i];
-        put_section(s, i, x, 0);
+    for (i, section) in sections.iter().enumerate() {
+        put_section(s, i, section, 0);
     }
 }
 
-fn put_items(s: &mut [Slot], items: [Item; 64], held: usize)
-    requires { (length s.old ≡ 129) × (held ≤ 64) × (all_of fields_in_range (take held items) ≡ true) }
-    ensures { PutItems items held s.old s.new }
+fn put_items(s: &mut State, items: &[Item])
+    requires few { length items.now ≤ 64 }
+    requires fit { all_of fields_in_range items.now ≡ true }
+    ensures { PutItems items.now s.old s.new }
 {
-    for i in 0usize..held {
-        let it = items[i];
-        let slot = item_slot(it);
-        let at = 65 + i;
-        s[at] = slot;
+    for (i, item) in items.iter().enumerate() {
+        s[ITEMS + i] = item_slot(*item);
     }
 }
 
-fn head_slot(legs: Legs, count: usize, held: usize) -> Slot
-    requires { (count ≤ 32) × (held ≤ 64) }
-    ensures { result ≡ head_of legs count held }
+// Slot 0 of a tower under no wind.
+fn head_slot(tower: &Tower) -> Slot
+    ensures { result ≡ head_of (tower_of tower.now) }
 {
     [
         1,
-        legs_number(legs) as u32,
-        count as u32,
-        held as u32,
+        u64::from(tower.legs) as u32,
+        tower.sections.len() as u32,
+        tower.items.len() as u32,
         0,
         0,
         0,
@@ -60,35 +58,20 @@ fn head_slot(legs: Legs, count: usize, held: usize) -> Slot
 }
 
 // A tower under no wind in place of everything.
-fn put_tower(s: &mut [Slot], t: Tower)
-    requires s_len { (length s.old ≡ 129) × (t.count ≤ 32) × (t.held ≤ 64) }
-    requires sections_value { (all_of section_stored (take t.count t.sections) ≡ true) × (all_of fields_in_range (take t.held t.items) ≡ true) }
-    ensures { state_of s.new ≡ standing (tower.tower_of t) none }
+fn put_tower(s: &mut State, tower: &Tower)
+    requires { ValidTower (tower_of tower.now) }
+    ensures { state_of s.new ≡ standing (tower_of tower.now) none }
 {
-    let legs = t.legs;
-    let count = t.count;
-    let held = t.held;
-    let sections = t.sections;
-    put_sections(s, sections, count);
-    let items = t.items;
-    put_items(s, items, held);
-    let head = head_slot(legs, count, held);
-    s[0] = head;
+    put_sections(s, &tower.sections);
+    put_items(s, &tower.items);
+    s[0] = head_slot(tower);
 }
 
 // The tower of the file in place of everything, and no wind.
-pub fn erect(s: &mut [Slot], file: &[u8]) -> Answer
-    requires { length s.old ≡ 129 }
+pub fn erect(s: &mut State, file: &[u8]) -> Result<(), Refusal>
     ensures { Meets (call.erect file.now) s.old s.new (answer_reply result) file.now }
 {
-    let read = tower_file::file::read(file);
-    let answer = read.answer;
-    let tower = read.tower;
-    match answer {
-        Answer::Accepted => {
-            put_tower(s, tower);
-            answer
-        }
-        Answer::Refused(_) => answer,
-    }
+    let tower = tower_file::file::read(file)?;
+    put_tower(s, &tower);
+    Ok(())
 }

@@ -1,103 +1,105 @@
 // Another wind in place of the last.
-ghost use Rattle.std.specs.Prelude.{◌≡◌, true, not, ℕ, ◌≤◌, ◌<◌, length, get_or};
-ghost use Rattle.model.specs.Lists.{all_of, any_of, list_to};
+ghost use Rattle.std.specs.Prelude.{◌≡◌, not, ◌≤◌, ◌<◌, length, slice_index};
+ghost use Rattle.model.specs.Lists.{all_of};
 ghost use Rattle.model.specs.Ranges as ranges;
-ghost use Rattle.model.specs.Answers.{answer_reply};
+ghost use Rattle.model.specs.Answers.{answer_number, answer_reply};
 ghost use Rattle.model.specs.Machine as machine;
 ghost use Rattle.model.specs.Calls as call;
-ghost use Rattle.slots.specs.Held.{section_at, PutSections};
-ghost use Rattle.slots.specs.Promises.{Meets, wind_asked};
+ghost use Rattle.model.specs.Tower.{wind_of};
+ghost use Rattle.std.specs.List.{list_all, range_with_len};
+ghost use Rattle.slots.specs.Held.{count_in, section_at, ground_of, ice_on, state_of, PutSections};
+ghost use Rattle.slots.specs.Promises.{Meets};
 ghost use Rattle.tower_calls.specs.Placed.{WindHead};
 
+use areas::ice::Ice;
 use areas::ranges::fits_under;
-use areas::section::thickness;
-use model::ranges::{ICE_CLASSES, PRESSURES, STRUCTURE_FACTOR, within};
-use model::{Answer, Refusal};
-use slots::Slot;
-use slots::head::{count_in, is_standing, legs_in, with_cell};
+use model::ranges::{ICE_CLASSES, PRESSURES, STRUCTURE_FACTOR};
+use model::{Refusal, Wind};
+use slots::head::{DIRECTION, FACTOR, ICE, WINDY, count_in, is_standing, legs_in};
 use slots::sections::{put_section, section_at};
-use slots::wind::{direction_fits, ice_on};
-use units::Length;
+use slots::wind::ice_on;
+use slots::{Slot, State};
 
 fn pressures_fit(pressures: &[u16]) -> bool
     ensures { result ≡ all_of (ranges.within ranges.pressures) pressures.now }
 {
-    for i in 0usize..pressures.len() {
-        if !within(PRESSURES, pressures[i] as u32) {
-            return false;
-        }
-    }
-    true
+    pressures.iter().all(|q| PRESSURES.contains(u32::from(*q)))
 }
 
-// Whether no section is too solid under ice of this class; `t` is the ice that they stand under now.
-fn sections_fit(s: &[Slot], t: Length, ice: u32, count: usize) -> bool
-    requires { (length s.now ≡ 129) × (t.0 ≤ 50) × (ice ≤ 5) × (count ≤ 32) }
-    ensures { result ≡ not (any_of (machine.is_too_solid ice) (list_to (section_at s.now t) count)) }
+// Whether section i, which stands under the present ice, is not too solid under ice of this class.
+fn section_fits(s: &State, present: Ice, class: u32, i: usize) -> bool
+    requires { (class ≤ 5) × (i < 32) }
+    ensures { result ≡ not (machine.is_too_solid class (section_at s.now present.thickness i)) }
 {
-    let iced = thickness(ice);
-    for i in 0usize..count {
-        let x = section_at(s, t, i);
-        if !fits_under(iced, x) {
-            return false;
-        }
-    }
-    true
+    let ice = Ice::of_class(class);
+    fits_under(ice.thickness, &section_at(s, present, i))
 }
 
-// The pressures beside their sections, which then stand in their slots as they do now under ice of thickness t.
-fn put_pressures(s: &mut [Slot], t: Length, ps: &[u16])
-    requires { (length s.old ≡ 129) × (t.0 ≤ 50) × (length ps.now ≤ 32) }
-    ensures { PutSections (section_at s.old t) (λ k. get_or ps.now k 0) (length ps.now) s.old s.new }
+// Whether no section is too solid under ice of this class.
+fn sections_fit(s: &State, class: u32) -> bool
+    requires { class ≤ 5 }
+    ensures { result ≡ list_all (λ i. not (machine.is_too_solid class (section_at s.now (ice_on (ground_of s.now)) i))) (range_with_len 0 (count_in s.now)) }
 {
-    for i in 0usize..ps.len() {
-        let x = section_at(s, t, i);
-        put_section(s, i, x, ps[i]);
-    }
+    let present = ice_on(s);
+    (0..count_in(s)).all(|i| section_fits(s, present, class, i))
 }
 
-// Slot 0 under a wind.
-fn with_wind(head: Slot, direction: u32, ice: u32, factor: u32) -> Slot
-    ensures { WindHead head direction ice factor result }
-{
-    let a = with_cell(head, 4, 1);
-    let b = with_cell(a, 5, direction);
-    let c = with_cell(b, 6, ice);
-    with_cell(c, 7, factor)
-}
-
-pub fn set_wind(s: &mut [Slot], direction: u32, ice: u32, factor: u32, pressures: &[u16]) -> Answer
-    requires { length s.old ≡ 129 }
-    ensures { Meets (call.wind (wind_asked direction ice factor pressures.now)) s.old s.new (answer_reply result)
-        pressures.now }
+// Document 01's rules of wind, in their order.
+#[tactic(auto, using(crate::proofs::Winds::wind_rules))]
+fn validate(s: &State, wind: Wind) -> Result<(), Refusal>
+    ensures { answer_number result ≡ call.refusal_of (state_of s.now) (call.wind (wind_of wind.entry)) }
 {
     if !is_standing(s) {
-        return Answer::Refused(Refusal::NoTower);
+        return Err(Refusal::NoTower);
     }
-    let legs = legs_in(s);
-    if !direction_fits(legs, direction) {
-        return Answer::Refused(Refusal::Direction);
+    if !legs_in(s).allows_direction(wind.direction) {
+        return Err(Refusal::Direction);
     }
-    if !within(ICE_CLASSES, ice) {
-        return Answer::Refused(Refusal::IceClass);
+    if !ICE_CLASSES.contains(wind.ice) {
+        return Err(Refusal::IceClass);
     }
-    if !within(STRUCTURE_FACTOR, factor) {
-        return Answer::Refused(Refusal::StructureFactor);
+    if !STRUCTURE_FACTOR.contains(wind.factor) {
+        return Err(Refusal::StructureFactor);
     }
-    let count = count_in(s);
-    if pressures.len() != count {
-        return Answer::Refused(Refusal::PressureCount);
+    if wind.pressures.len() != count_in(s) {
+        return Err(Refusal::PressureCount);
     }
-    if !pressures_fit(pressures) {
-        return Answer::Refused(Refusal::Pressure);
+    if !pressures_fit(wind.pressures) {
+        return Err(Refusal::Pressure);
     }
-    let t = ice_on(s);
-    if !sections_fit(s, t, ice, count) {
-        return Answer::Refused(Refusal::IcedSolidity);
+    if !sections_fit(s, wind.ice) {
+        return Err(Refusal::IcedSolidity);
     }
-    put_pressures(s, t, pressures);
-    let head = s[0];
-    let next = with_wind(head, direction, ice, factor);
-    s[0] = next;
-    Answer::Accepted
+    Ok(())
+}
+
+// The pressures beside their sections, which then stand in their slots as they do now.
+fn put_pressures(s: &mut State, pressures: &[u16])
+    requires { length pressures.now ≤ 32 }
+    ensures { PutSections (section_at s.old (ice_on (ground_of s.old))) (λ k. slice_index pressures.now k) (length pressures.now) s.old s.new }
+{
+    let ice = ice_on(s);
+    for (i, q) in pressures.iter().enumerate() {
+        let section = section_at(s, ice, i);
+        put_section(s, i, &section, *q);
+    }
+}
+
+// Slot 0 under the wind.
+fn put_wind(head: &mut Slot, wind: Wind)
+    ensures { WindHead head.old wind.entry.direction wind.entry.ice wind.entry.factor head.new }
+{
+    head[WINDY] = 1;
+    head[DIRECTION] = wind.direction;
+    head[ICE] = wind.ice;
+    head[FACTOR] = wind.factor;
+}
+
+pub fn set_wind(s: &mut State, wind: Wind) -> Result<(), Refusal>
+    ensures { Meets (call.wind (wind_of wind.entry)) s.old s.new (answer_reply result) wind.entry.pressures.now }
+{
+    validate(s, wind)?;
+    put_pressures(s, wind.pressures);
+    put_wind(&mut s[0], wind);
+    Ok(())
 }

@@ -1,16 +1,19 @@
 use Rattle.std.proofs.Common.{arith}
+use Rattle.std.proofs.lemmas.Result.{err_from_is_err_and}
+use Rattle.model.proofs.Accepted.{accepted-valid}
 use Rattle.tower_file.proofs.Filed.{all-bytes}
-use Rattle.tower_calls.proofs.Erects.{can-stand, file-refused, file-accepted}
+use Rattle.tower_calls.proofs.Erects.{file-refused, file-accepted}
 use Rattle.tower_calls.proofs.erect.erect.Goals as goal
+
+pub returns-in_err-tower : goal.returns-in_err-tower
+returns-in_err-tower c =
+    let p = err_from_is_err_and c.from_residual.result c.from_residual.ensures.1 in
+    rw (p.1, p.2) (file-refused c.args.s.now c.args.file.now _ c.in_err-tower.ensures.tower)
 
 pub put_tower-requires : goal.put_tower-requires
 put_tower-requires c =
     let file = c.args.file.now in
-    let f = can-stand c.args.s.now file c.read-read.ensures c.in-Accepted.is (all-bytes file (λ i. omega (arith, c.type_inv.file i))) in
-    record { s_len = (c.requires, f.count, f.held); sections_value = (f.sections, f.items) }
+    accepted-valid file (all-bytes file (λ i. omega (arith, c.type_inv.file i))) c.in_ok-tower.ensures.tower
 
-pub returns-in-Accepted : goal.returns-in-Accepted
-returns-in-Accepted c = file-accepted c.args.s.now c.args.file.now c.read-read.ensures c.in-Accepted.is c.put_tower.new.s c.put_tower.ensures
-
-pub returns-in-Refused : goal.returns-in-Refused
-returns-in-Refused c = file-refused c.args.s.now c.args.file.now c.read-read.ensures c.in-Refused.is
+pub returns : goal.returns
+returns c = file-accepted c.args.s.now c.args.file.now _ c.in_ok-tower.ensures.tower c.put_tower.new.s c.put_tower.ensures

@@ -1,10 +1,7 @@
-use Rattle.std.proofs.Common.{◌≡◌, length, arith, rules}
-use Rattle.model.specs.File.{fields_in_range}
-use Rattle.model.proofs.Lists.{length-mapped, taken_at}
-use Rattle.areas.proofs.Facts.{no_item}
+use Rattle.std.proofs.Common.{arith}
+use Rattle.tower_calls.proofs.Puts.{items-more}
 use Rattle.tower_calls.proofs.erect.put_items.Goals as goal
 
-pub item_slot-slot-requires : goal.item_slot-slot-requires
-item_slot-slot-requires c =
-    let long : length c.args.items ≡ 64 = search (rules, length-mapped, c.well_formed) in
-    taken_at fields_in_range c.args.items c.args.held c.loop-i.i no_item c.loop-i-test.true (omega arith) c.requires.2
+pub loop-i-preserved : goal.loop-i-preserved
+loop-i-preserved c =
+    items-more c.args.items.now c.loop-i.i _ c.args.s.now c.loop-i.s c.item_slot.result c.told-s (omega arith) (omega arith) c.loop-i.invariant c.item_slot.ensures.1

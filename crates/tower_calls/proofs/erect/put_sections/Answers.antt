@@ -1,12 +1,14 @@
-use Rattle.std.proofs.Common.{◌≡◌, length, ◌∙◌, arith, rules}
-use Rattle.model.proofs.Lists.{length-mapped, taken_at}
-use Rattle.areas.proofs.Facts.{no_stored}
-use Rattle.tower_calls.specs.Placed.{section_stored}
-use Rattle.tower_calls.proofs.Puts.{stored-facts}
+use Rattle.std.proofs.Common.{sym, subst, arith}
+use Rattle.model.specs.Tower.{Section}
+use Rattle.slots.specs.Held.{PutSection}
+use Rattle.tower_calls.proofs.Puts.{section-there, section-fit, sections-more}
 use Rattle.tower_calls.proofs.erect.put_sections.Goals as goal
 
 pub put_section-requires : goal.put_section-requires
-put_section-requires c =
-    let long : length c.args.sections ≡ 32 = search (rules, length-mapped, c.well_formed) in
-    let f = stored-facts _ (taken_at section_stored c.args.sections c.args.count c.loop-i.i no_stored c.loop-i-test.true (omega arith) c.requires.2) in
-    (c.loop-i.invariant.long ∙ c.requires.0, omega arith, f.0, f.1)
+put_section-requires c = (omega arith, section-fit _ c.loop-i.i _ c.loop-i-test.true c.index-sections-i.is c.requires.fit)
+
+pub loop-i-preserved : goal.loop-i-preserved
+loop-i-preserved c =
+    let there = section-there _ c.loop-i.i _ c.loop-i-test.true c.index-sections-i.is in
+    sections-more _ _ c.loop-i.i c.loop-i.invariant
+    (subst (λ (x : Section). PutSection x 0 c.loop-i.i c.loop-i.s c.put_section.new.s) (sym there) c.put_section.ensures)

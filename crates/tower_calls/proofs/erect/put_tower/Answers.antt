@@ -1,14 +1,21 @@
-use Rattle.std.proofs.Common.{◌≡◌, length, arith, rules}
-use Rattle.model.proofs.Lists.{length-mapped}
+use Rattle.std.proofs.Common.{length}
+use Rattle.std.proofs.lemmas.List.{length-map}
+use Rattle.model.specs.File.{fields_in_range}
+use Rattle.model.specs.Tower.{tower_of}
+use Rattle.model.specs.Valid.{item_fits}
+use Rattle.model.proofs.Lists.{all_weaker}
+use Rattle.model.proofs.Reached.{fit_parts}
 use Rattle.tower_calls.proofs.Towers.{tower-put}
 use Rattle.tower_calls.proofs.erect.put_tower.Goals as goal
 
+pub put_items-requires-clause-fit : goal.put_items-requires-clause-fit
+put_items-requires-clause-fit c =
+    let t = tower_of c.args.tower.now in
+    rw c.deref-2.ensures.0 (all_weaker (item_fits (length t.sections)) fields_in_range (λ it k. (fit_parts _ it k).2) t.items c.requires.items)
+
 pub returns : goal.returns
 returns c =
-    let t = c.args.t in
-    let n = c.requires.s_len in
-    let wide : length t.sections ≡ 32 = search (rules, length-mapped, c.well_formed) in
-    let tall : length t.items ≡ 64 = search (rules, length-mapped, c.well_formed) in
-    rw c.head_slot-head.ensures
-    (tower-put t n.1 n.2 (omega arith) (omega arith) c.requires.sections_value.0 c.args.s.now c.put_sections.new.s c.put_items.new.s n.0
-    c.put_sections.ensures c.put_items.ensures)
+    let t = tower_of c.args.tower.now in
+    let sections = rw c.deref.ensures.0 at c.put_sections.ensures in
+    let items = rw c.deref-2.ensures.0 at c.put_items.ensures in
+    rw c.head_slot.ensures (tower-put t c.requires c.args.s.now c.put_sections.new.s c.put_items.new.s c.told-s (rw length-map sections) items)

@@ -3,4 +3,4 @@ use Rattle.slots.specs.Held.{section_at, PutSections}
 use Rattle.tower_calls.proofs.wind.put_pressures.Given as goal
 
 abbrev pub invariant-loop-i : goal.invariant-loop-i
-invariant-loop-i l = PutSections (section_at l.fn.s l.t) (λ k. get_or l.ps k 0) l.i l.fn.s l.s
+invariant-loop-i l = PutSections (section_at l.fn.s l.ice.thickness) (λ k. get_or l.pressures k 0) l.i l.fn.s l.s
