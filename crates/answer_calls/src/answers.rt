@@ -1,57 +1,55 @@
 // The calls that ask, and change nothing in the state.
-ghost use Rattle.std.specs.Prelude.{◌≡◌, [], length};
-ghost use Rattle.model.specs.Answers.{answer_reply, check_reply, write_reply};
+ghost use Rattle.std.specs.Prelude.{◌≡◌, [], IfOk, IfErr};
+ghost use Rattle.std.proofs.Math.Option.{some};
+ghost use Rattle.model.specs.Answers.{refusal_number, answer_reply, check_reply, write_reply};
+ghost use Rattle.model.specs.Machine.{standing};
 ghost use Rattle.model.specs.Calls as call;
+ghost use Rattle.slots.specs.Held as held;
+ghost use Rattle.slots.specs.Held.{state_of, wind_in};
 ghost use Rattle.slots.specs.Promises.{Meets};
 
 use crate::tower::tower_in;
-use model::{Answer, CheckAnswer, Refusal, WriteAnswer};
-use rows::table::{section_over, write_rows};
-use slots::Slot;
+use model::Refusal;
+use rows::loads::LoadedTower;
+use slots::State;
 use slots::head::{count_in, is_standing};
-use slots::wind::has_wind;
 
-// Six numbers per section at the start of out, top first; the rest of out stays.
-pub fn report(s: &[Slot], out: &mut [u64]) -> Answer
-    requires { length s.now ≡ 129 }
-    ensures { Meets (call.report out.old) s.now s.now (answer_reply result) out.new }
+// The tower under its wind, or which of the two does not stand.
+fn loaded_tower(s: &State) -> Result<LoadedTower<'_>, Refusal>
+    ensures refused { IfErr result (λ e. refusal_number e ≡ call.refusal_of (state_of s.now) call.check) }
+    ensures loaded { IfOk result (λ t. (t.state.now ≡ s.now) × (state_of s.now ≡ standing (held.tower_in s.now) (some (wind_in s.now)))) }
 {
     if !is_standing(s) {
-        return Answer::Refused(Refusal::NoTower);
+        return Err(Refusal::NoTower);
     }
-    if !has_wind(s) {
-        return Answer::Refused(Refusal::NoWind);
+    LoadedTower::new(s).ok_or(Refusal::NoWind)
+}
+
+// Six numbers per section at the start of out, top first; the rest of out stays.
+pub fn report(s: &State, out: &mut [u64]) -> Result<(), Refusal>
+    ensures { Meets (call.report out.old) s.now s.now (answer_reply result) out.new }
+{
+    let tower = loaded_tower(s)?;
+    if out.len() < 6 * count_in(s) {
+        return Err(Refusal::OutputShort);
     }
-    let filled = 6 * count_in(s);
-    if out.len() < filled {
-        return Answer::Refused(Refusal::OutputShort);
-    }
-    write_rows(s, out);
-    Answer::Accepted
+    tower.write_rows(out);
+    Ok(())
 }
 
 // The topmost section whose reported shear is above its allowance, or that none is.
-pub fn check(s: &[Slot]) -> CheckAnswer
-    requires { length s.now ≡ 129 }
+pub fn check(s: &State) -> Result<Option<usize>, Refusal>
     ensures { Meets call.check s.now s.now (check_reply result) [] }
 {
-    if !is_standing(s) {
-        return CheckAnswer::Refused(Refusal::NoTower);
-    }
-    if !has_wind(s) {
-        return CheckAnswer::Refused(Refusal::NoWind);
-    }
-    section_over(s)
+    Ok(loaded_tower(s)?.section_over())
 }
 
 // The tower file at the start of out, and its length; the bytes beyond stay.
-pub fn write(s: &[Slot], out: &mut [u8]) -> WriteAnswer
-    requires { length s.now ≡ 129 }
+pub fn write(s: &State, out: &mut [u8]) -> Result<usize, Refusal>
     ensures { Meets (call.write out.old) s.now s.now (write_reply result) out.new }
 {
     if !is_standing(s) {
-        return WriteAnswer::Refused(Refusal::NoTower);
+        return Err(Refusal::NoTower);
     }
-    let tower = tower_in(s);
-    tower_file::file::write(tower, out)
+    tower_file::file::write(&tower_in(s), out)
 }

@@ -1,4 +1,4 @@
-// Report, check and write, on slots that the caller lends and that they leave.
+// Report, check and write, on a state that the caller lends and that they leave.
 #![tactic(auto)]
 
 pub mod answers;

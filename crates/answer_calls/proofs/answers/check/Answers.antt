@@ -1,16 +1,13 @@
-use Rattle.std.proofs.Common.{refl, sym, ◌∙◌}
-use Rattle.model.specs.Calls.{check}
-use Rattle.answer_calls.proofs.WaysOut.{none-stands, check-calm, check_done}
+use Rattle.std.proofs.lemmas.Result.{err_from_is_err_and}
+use Rattle.answer_calls.proofs.WaysOut.{check-refused, check_done}
 use Rattle.answer_calls.proofs.answers.check.Goals as goal
 
-pub returns-then-not-is_standing : goal.returns-then-not-is_standing
-returns-then-not-is_standing c = none-stands check c.args.s.now refl (sym c.is_standing.ensures ∙ c.if-not-is_standing.true)
-
-pub returns-then-not-has_wind : goal.returns-then-not-has_wind
-returns-then-not-has_wind c =
-    check-calm c.args.s.now (sym c.is_standing.ensures ∙ c.if-not-is_standing.false) (sym c.has_wind.ensures ∙ c.if-not-has_wind.true)
+pub returns-in_err-loaded_tower : goal.returns-in_err-loaded_tower
+returns-in_err-loaded_tower c =
+    let p = err_from_is_err_and c.from_residual.result c.from_residual.ensures.1 in
+    rw (p.1, p.2) (check-refused c.args.s.now _ c.in_err-loaded_tower.ensures.refused)
 
 pub returns : goal.returns
 returns c =
-    check_done c.args.s.now (sym c.is_standing.ensures ∙ c.if-not-is_standing.false)
-    (sym c.has_wind.ensures ∙ c.if-not-has_wind.false) c.section_over.ensures
+    let t = c.in_ok-loaded_tower.ensures.loaded in
+    check_done c.args.s.now t.1 c.section_over.result (rw t.0 at c.section_over.ensures)

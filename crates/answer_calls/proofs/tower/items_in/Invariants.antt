@@ -1,6 +1,6 @@
-use Rattle.std.proofs.Common.{◌≡◌, length, take}
-use Rattle.slots.specs.Held.{items_to}
+use Rattle.std.proofs.Common.{◌≡◌, map, take}
+use Rattle.slots.specs.Held.{item_of}
 use Rattle.answer_calls.proofs.tower.items_in.Given as goal
 
-abbrev pub invariant-loop-i : goal.invariant-loop-i
-invariant-loop-i l = (length l.items ≡ 64) × (take l.i l.items ≡ items_to l.s l.i)
+abbrev pub invariant-loop-slot : goal.invariant-loop-slot
+invariant-loop-slot l = l.items.items ≡ map item_of (take l.slot-index l.slot-items)

@@ -1,16 +1,26 @@
-use Rattle.std.proofs.Common.{refl, arith, length-set}
+use Rattle.std.proofs.Common.{◌≡◌, ap, sym, ◌∙◌, arith}
 use Rattle.model.specs.Lists.{list_to}
-use Rattle.answer_calls.proofs.Loading.{sections-more}
+use Rattle.slots.specs.Held.{count_in, section_at, ground_of, ice_on}
+use Rattle.slots.proofs.Grounds.{sections-are}
+use Rattle.answer_calls.proofs.Loading.{so-many, sections-more}
 use Rattle.answer_calls.proofs.tower.sections_in.Goals as goal
 
 pub loop-i-init : goal.loop-i-init
 unfolding list_to
-loop-i-init c = (refl, refl)
+loop-i-init c = rw c.new-sections.ensures
+
+pub push-requires : goal.push-requires
+push-requires c =
+    let n = so-many c.args.s.now c.loop-i.i c.loop-i.sections.items c.loop-i.invariant in
+    (omega arith, omega (arith, n, c.loop-i-test.true, c.count_in-i-end.ensures.1))
 
 pub loop-i-preserved : goal.loop-i-preserved
 loop-i-preserved c =
-    let l = c.loop-i in
-    let a = c.args in (
-      rw length-set l.invariant.0,
-      sections-more a.s.now a.t l.i l.sections c.section_at-x.result (omega arith) l.invariant.1 c.section_at-x.ensures.0,
-    )
+    rw c.push.ensures.items
+    (sections-more c.args.s.now c.loop-i.i c.loop-i.sections.items c.loop-i.invariant c.section_at.result (rw c.ice_on-ice.ensures at c.section_at.ensures.0))
+
+pub returns : goal.returns
+returns c =
+    let s = c.args.s.now in
+    let e : c.loop-i.i ≡ count_in s = omega (arith, c.count_in-i-end.ensures.0, c.loop-i-test.false, c.loop-i.auto.i-end) in
+    c.loop-i.invariant ∙ ap (list_to (section_at s (ice_on (ground_of s)))) e ∙ sym (sections-are s)
