@@ -4,7 +4,7 @@ use mathlib.Core.Path.{◌≡◌, refl, ap, sym, ◌∙◌}
 use mathlib.Core.Bool.{true, false}
 use mathlib.Core.List.{List, [], ◌∷◌, ◌++◌, append_assoc}
 use native.Mathlib.Omega.{arith}
-use lib.ListN.{length, drop, length-append, length-drop}
+use lib.ListN.{length, drop}
 use lib.Seq.{take_at, drop_at, drop-drop}
 use borrow.Rule.Slice.PartMut.{put_mid, Post-is}
 use Rattle.units.specs.declared.Force.{Force}
@@ -64,11 +64,6 @@ module _ (t : Tower) (w : Wind) where
   shear-next i p q = omega (arith, shear-more (force_at t w) i, ap (λ (x : Force). x.0) q)
 
 module _ {t : Tower} {w : Wind} {i : ℕ} where
-  -- the slice keeps its length
-  pub written-long : {lent out : List ℕ} {foot : Foot} → Written t w lent i out foot → 6 * i ≤ length lent → length out ≡ length lent
-  written-long {lent} s h =
-      ap length s.rows ∙ omega (arith, length-append (rows_to t w i) (drop (6 * i) lent), length-rows t w i, length-drop (6 * i) lent)
-
   -- section i, below the rows so far
   module _ {lent out : List ℕ} {above foot : Foot} {own : SectionLoad} (s : Written t w lent i out above) (a : LoadAt t w i own)
       (n : NextFoot above own.load.force own.height foot) where

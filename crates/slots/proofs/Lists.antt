@@ -13,7 +13,7 @@ use Rattle.std.proofs.Common.{append_assoc}
 use Rattle.std.proofs.lemmas.List.{set_at, map_more}
 use Rattle.std.proofs.lemmas.Grind.{common_steps}
 use Rattle.model.specs.Lists.{list_to, all_of, any_of}
-use Rattle.model.proofs.Lists.{length-list_to, all-of-append, any_append, all-at, none-at}
+use Rattle.model.proofs.Lists.{length-list_to, all-of-append, all-at, none-at}
 use Rattle.exact.proofs.Bools.{clash}
 
 module _ {A : Type 0} where
@@ -38,10 +38,6 @@ module _ {A : Type 0} where
   unfolding list_to
   list_same f g zero e = refl
   list_same f g (suc n) e = rw (list_same f g n (λ j h. e j (omega arith)), e n (omega arith))
-
-  pub list-front : (f : ℕ → A) (d : A) (m n : ℕ) → n ≤ m → take n (list_to f m) ≡ list_to f n
-  list-front f d m n h =
-      sym (list-take f (list_to f m) d n (omega (arith, length-list_to f m)) (λ j g. sym (get_or-list_to f d m j (omega arith))))
 
   pub list_to_map : {B : Type 0} (g : A → B) (l : List A) (d : A) (n : ℕ) → n ≤ length l → list_to (λ j. g (get_or l j d)) n ≡ map g (take n l)
   unfolding list_to
@@ -71,9 +67,6 @@ module _ {A : Type 0} (p : A → Bool) (f : ℕ → A) where
   pub all-next : (n : ℕ) → all_of p (list_to f (n + 1)) ≡ (all_of p (list_to f n) && p (f n))
   all-next n = ap (all_of p) (list-more f n) ∙ all-of-append p (list_to f n) (f n ∷ []) ∙ and-only (all_of p (list_to f n)) (p (f n))
 
-  pub any_next : (n : ℕ) → any_of p (list_to f (n + 1)) ≡ (any_of p (list_to f n) || p (f n))
-  any_next n = ap (any_of p) (list-more f n) ∙ any_append p (list_to f n) (f n ∷ []) ∙ or-only (any_of p (list_to f n)) (p (f n))
-
   module _ (n i : ℕ) (h : i < n) where
     pub all_there : all_of p (list_to f n) ≡ true → p (f i) ≡ true
     all_there e = ap p (sym (get_or-list_to f (f i) n i h)) ∙ all-at p (list_to f n) i (f i) (omega (arith, length-list_to f n)) e
@@ -87,10 +80,3 @@ module _ {A : Type 0} (p : A → Bool) (f : ℕ → A) where
         by-case : (b : Bool) → all_of p (list_to f n) ≡ b → b ≡ false
         by-case true g = absurd (clash (all_there g) e)
         by-case false g = refl
-
-    pub any-so : p (f i) ≡ true → any_of p (list_to f n) ≡ true
-    any-so e = by-case (any_of p (list_to f n)) refl
-      where
-        by-case : (b : Bool) → any_of p (list_to f n) ≡ b → b ≡ true
-        by-case true g = refl
-        by-case false g = absurd (clash e (none-there g))

@@ -1,10 +1,10 @@
--- What a lent state is to document 01's machine. It is 129 slots of 12 cells, and EVERY value of them stands for a state
--- of the machine: a count beyond its slots counts as their number, an item whose fields are out of range as one of no
--- force, a wind whose direction, ice class or structure factor is out of range as none, a pressure that is out of range
--- as none, and a section that is out of range, or too solid under the wind's ice, as the least one. No call makes such
--- values, and no call has to look for them beyond what it uses.
--- Slot 0: 1 where a tower stands, legs, number of sections, number of items, 1 where a wind stands, direction,
--- ice class, structure factor. Slots 1 to 64: two for each section. Slots 65 to 128: the items in hanging order.
+-- What a lent state is to document 01's machine. It is 129 slots of 12 cells, and EVERY value of them stands for a
+-- state of the machine: a count beyond its slots counts as their number, an item whose fields are out of range as one
+-- of no force, a wind whose direction, ice class or structure factor is out of range as none, a pressure that is out of
+-- range as none, and a section that is out of range, or too solid under the wind's ice, as the least one. No call makes
+-- such values, and no call has to look for them beyond what it uses.
+-- Slot 0: 1 where a tower stands, legs, number of sections, number of items, 1 where a wind stands, direction, ice
+-- class, structure factor. Slots 1 to 64: two for each section. Slots 65 to 128: the items in hanging order.
 use Rattle.std.specs.Prelude.{ℕ, ◌%◌, ◌/◌, ◌+◌, ◌-◌, ◌*◌, ◌≤◌, ◌<◌, ◌≡◌, ◌≢◌, Bool, cond, ◌&&◌, List, [], ◌∷◌, ◌++◌, map, eqb, leb, length, take, drop, get_or, replicate, min}
 use Rattle.std.proofs.Math.Option.{none, some}
 use Rattle.units.specs.declared.Length.{Length}

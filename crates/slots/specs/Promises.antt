@@ -12,7 +12,8 @@ wind_asked k ice factor ps = record { direction = k; ice = ice; factor = factor;
 abbrev pub beside_items : ℕ → ℕ → Bool
 beside_items i j = ltb i 65 && not (eqb i 0 && eqb j 3)
 
--- the cells that a call leaves as they are, also where it is accepted: hang and take down those beside the items, wind the items
+-- the cells that a call leaves as they are, also where it is accepted: hang and take down those beside the items, wind
+-- the items
 unfoldable pub leaves : Call → ℕ → ℕ → Bool
 leaves (erect file) i j = false
 leaves (hang it) i j = beside_items i j
@@ -22,7 +23,8 @@ leaves (report lent) i j = true
 leaves check i j = true
 leaves (write lent) i j = true
 
--- the state, the reply and every element of the lent slice are the machine's; a call that is turned down leaves every cell
+-- the state, the reply and every element of the lent slice are the machine's; a call that is turned down leaves every
+-- cell
 pub record Meets (c : Call) (before after : Slots) (r : Reply) (slice : List ℕ) : Type 0 where
   pub state : state_of after ≡ step (state_of before) c
   pub reply : r ≡ reply_of (state_of before) c
