@@ -9,8 +9,8 @@ use Rattle.slots.specs.Held.{Slots, cell, state_of}
 use Rattle.slots.specs.Promises.{leaves}
 use Rattle.service.proofs.Links.{Link, link-meets, number_is}
 
--- the full answer, or the refusal whose condition is met first; where it is refused, every cell and the lent slice are as they were. And the cells that
--- the call has nothing to do with stay in any case
+-- the full answer, or the refusal whose condition is met first; where it is refused, every cell and the lent slice are
+-- as they were. And the cells that the call has nothing to do with stay in any case
 pub record OneCall (s : Slots) (c : Call) (o : Outcome) (s' : Slots) : Type 0 where
   pub number : o.reply.number ≡ refusal_of (state_of s) c
   pub reply : o.reply ≡ reply_of (state_of s) c

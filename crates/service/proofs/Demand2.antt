@@ -9,7 +9,7 @@ use lib.ListN.{length, take, drop, get_or}
 use lib.Seq.{take_at}
 use lib.Dec.{ltb}
 use borrow.Author.Tests.{le-ltb, ltb-false}
-use Rattle.model.specs.declared.WriteAnswer.TheVariants as write-answer
+use Rattle.std.specs.Prelude.{Ok}
 use Rattle.model.specs.Lists.{sum_to}
 use Rattle.model.specs.Tower.{Tower, Wind}
 use Rattle.model.specs.Reading.{Parsed, got, refused}
@@ -46,8 +46,8 @@ use Rattle.service.proofs.Links.{
 }
 use Rattle.service.proofs.Demand3.{number-at}
 
--- the numbers of section i: the areas of each flow class under the wind's ice, the force, the shear as the sum of the reported forces from the top, and the
--- moment as the sum of those forces times their arms
+-- the numbers of section i: the areas of each flow class under the wind's ice, the force, the shear as the sum of the
+-- reported forces from the top, and the moment as the sum of those forces times their arms
 pub record Numbers (t : Tower) (w : Wind) (rows : List ℕ) (i : ℕ) : Type 0 where
   pub flat : get_or rows (6 * i + 0) 0 ≡ (areas_at t w i).flat.0
   pub subcritical : get_or rows (6 * i + 1) 0 ≡ (areas_at t w i).subcritical.0
@@ -99,7 +99,7 @@ file-tower (refused k) (number low high) h = absurd (omega arith)
 -- a tower that stands, written where there is room
 module _ {s s' : Slots} {lent : List ℕ} {o : Outcome} (l : Link s (write lent) o s') {t : Tower} {w : Option Wind} (e : state_of s ≡ standing t w) where
   written-room : length (file_of t) ≤ length lent
-      → (o.reply ≡ write_reply (write-answer.Written (length (file_of t)))) × (o.lent ≡ file_of t ++ drop (length (file_of t)) lent)
+      → (o.reply ≡ write_reply (Ok (length (file_of t)))) × (o.lent ≡ file_of t ++ drop (length (file_of t)) lent)
   unfolding filled
   written-room h =
       let f : ltb (length lent) (length (file_of t)) ≡ false = le-ltb (length lent) (length (file_of t)) h in (
@@ -107,7 +107,7 @@ module _ {s s' : Slots} {lent : List ℕ} {o : Outcome} (l : Link s (write lent)
         lent_is l (standing t w) e ∙ rw f refl,
       )
 
-  written-bytes : {n : ℕ} → o.reply ≡ write_reply (write-answer.Written n) → take n o.lent ≡ file_of t
+  written-bytes : {n : ℕ} → o.reply ≡ write_reply (Ok n) → take n o.lent ≡ file_of t
   unfolding filled
   written-bytes {n} q =
       let k : _ = write-length (standing t w) lent (sym (reply-is l (standing t w) e) ∙ q) in
@@ -121,18 +121,18 @@ erected-is {s = s} {file = file} l g = next-is l (state_of s) refl ∙ erect-sta
 -- a tower file read and written again has the same bytes
 pub demand-2-same-bytes : {s s₁ s₂ : Slots} {file lent : List ℕ} {o p : Outcome}
     → Link s (erect file) o s₁ → o.reply.number ≡ 0 → Link s₁ (write lent) p s₂ → length file ≤ length lent
-    → (p.reply ≡ write_reply (write-answer.Written (length file))) × (p.lent ≡ file ++ drop (length file) lent)
+    → (p.reply ≡ write_reply (Ok (length file))) × (p.lent ≡ file ++ drop (length file) lent)
 unfolding erect_refusal
 demand-2-same-bytes {s = s} {file = file} {lent = lent} {p = p} l a k room =
     let g : FileTower (read_file file) = file-tower (read_file file) (file-numbered file) (sym (number_is l (state_of s) refl) ∙ a) in
     let e : _ = erected-is l g.is in
     subst
-    (λ (x : List ℕ). length x ≤ length lent → (p.reply ≡ write_reply (write-answer.Written (length x))) × (p.lent ≡ x ++ drop (length x) lent))
+    (λ (x : List ℕ). length x ≤ length lent → (p.reply ≡ write_reply (Ok (length x))) × (p.lent ≡ x ++ drop (length x) lent))
     (same_bytes file (link-typed l) g.is) (written-room k e) room
 
 -- a tower written and read again has the same sections and items, whatever list of calls led to it
 pub demand-2-same-tower : {f s s₁ s₂ s₃ : Slots} {cs : List Call} {os : List Outcome} {lent file : List ℕ} {o p : Outcome} {t : Tower} {w : Option Wind} {n : ℕ}
-    → IsFresh f → Chain f cs os s → state_of s ≡ standing t w → Link s (write lent) o s₁ → o.reply ≡ write_reply (write-answer.Written n) → file ≡ take n o.lent
+    → IsFresh f → Chain f cs os s → state_of s ≡ standing t w → Link s (write lent) o s₁ → o.reply ≡ write_reply (Ok n) → file ≡ take n o.lent
     → Link s₂ (erect file) p s₃ → (p.reply.number ≡ 0) × (state_of s₃ ≡ standing t none)
 unfolding erect_refusal
 demand-2-same-tower {s₂ = s₂} {cs = cs} {file = file} {t = t} fresh ch e l q f k =

@@ -43,21 +43,22 @@ use Rattle.service.proofs.Links.{
   chain-lent,
 }
 
--- the excess of every reported force is never negative and below so many newtons; that of every reported shear below them times the sections down to the foot,
--- and that of every reported moment below them times the sum of the arms
+-- the excess of every reported force is never negative and below so many newtons; that of every reported shear below
+-- them times the sections down to the foot, and that of every reported moment below them times the sum of the arms
 pub record Excess (newtons : ℕ) (t : Tower) (w : Wind) (rows : List ℕ) : Type 0 where
   pub force : (i : ℕ) → i < length t.sections → Within newtons (exact_at t w i) (get_or rows (6 * i + 3) 0)
   pub shear : (i : ℕ) → i < length t.sections → ExcessBelow (shear_terms t w (i + 1)) (get_or rows (6 * i + 4) 0) (newtons * (i + 1))
   pub moment : (i : ℕ) → i < length t.sections → ExcessBelow (moment_terms t w (i + 1)) (get_or rows (6 * i + 5) 0) (newtons * (arms_to t (i + 1)).0)
 
--- a tower newly erected on another fresh service, with the same items in whatever order, and given the same wind: none of the calls is turned down, and
--- the report into a slice of the same length has the same numbers
+-- a tower newly erected on another fresh service, with the same items in whatever order, and given the same wind: none
+-- of the calls is turned down, and the report into a slice of the same length has the same numbers
 pub record SameNewly (t : Tower) (w : Wind) (room : ℕ) (rows : List ℕ) : Type 0 where
   pub each-order : (items : List Item) → Permᴰ t.items items → (lent : List ℕ) → length lent ≡ room
       → {f s : Slots} {os : List Outcome} → IsFresh f → Chain f (newly_erected t items w lent) os s
       → (all_of is_accepted os ≡ true) × (take (6 * length t.sections) (last_lent os) ≡ take (6 * length t.sections) rows)
 
--- an accepted report: it is that of a valid tower under a wind that it takes, its six numbers a section are document 01's, and the rest of the slice stays
+-- an accepted report: it is that of a valid tower under a wind that it takes, its six numbers a section are document
+-- 01's, and the rest of the slice stays
 pub record AcceptedReport (m : State) (before after : List ℕ) : Type 0 where
   pub tower : Tower
   pub wind : Wind
@@ -172,7 +173,8 @@ each m e v none = none_left
 each m e v (more {c = c} l ch) =
     entry-then (entry m e v l) (each (step m c) (next-is l m e) (step-valid m c (link-typed l) v) ch)
 
--- For every list of erect, hang, take-down, wind, report, check and write calls, with any arguments of their types, refused ones included: the list starts from
--- a fresh service, each call gets the state that the last one left, and document 01's machine is given the same list.
+-- For every list of erect, hang, take-down, wind, report, check and write calls, with any arguments of their types,
+-- refused ones included: the list starts from a fresh service, each call gets the state that the last one left, and
+-- document 01's machine is given the same list.
 pub demand-3 : {f s : Slots} {cs : List Call} {os : List Outcome} → IsFresh f → Chain f cs os s → Each no_tower cs os × (state_of s ≡ run no_tower cs)
 demand-3 fresh ch = (each no_tower (fresh-state fresh) none_standing ch, chain-state no_tower (fresh-state fresh) ch)

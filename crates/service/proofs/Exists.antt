@@ -1,5 +1,5 @@
--- There are the chains that Demand3 speaks of: every call with arguments of its types has a link from every state, and so every list of such calls has a
--- chain from a fresh service.
+-- There are the chains that Demand3 speaks of: every call with arguments of its types has a link from every state, and
+-- so every list of such calls has a chain from a fresh service.
 use Prim.Native.Nat.{ℕ}
 use mathlib.Core.Path.{◌≡◌, refl, ap, sym, subst, ◌∙◌}
 use mathlib.Core.Bool.{true, ◌&&◌, true≢false}
@@ -9,13 +9,9 @@ use lib.ListN.{take}
 use contract.Lifetimes.{Lfts}
 use denote.Ref.{Bor}
 use denote.MutBor.{MutBor}
-use Rattle.model.specs.declared.Answer.{Answer}
-use Rattle.model.specs.declared.Answer.TheVariants as answer
-use Rattle.model.specs.declared.CheckAnswer.{CheckAnswer}
-use Rattle.model.specs.declared.CheckAnswer.TheVariants as check-answer
-use Rattle.model.specs.declared.WriteAnswer.{WriteAnswer}
-use Rattle.model.specs.declared.WriteAnswer.TheVariants as write-answer
+use Rattle.std.specs.Prelude.{Option, Some, None, Result, Ok, Err, ⊤}
 use Rattle.model.specs.declared.Item.{Item}
+use Rattle.model.specs.declared.Refusal.{Refusal}
 use Rattle.model.specs.Answers.{Reply, accepts, answer_reply, check_reply, write_reply}
 use Rattle.model.specs.Lists.{all_of}
 use Rattle.model.specs.Tower.{Tower, Wind}
@@ -60,7 +56,7 @@ use Rattle.service.proofs.Links.{
 
 -- the answer of erect, hang, take down or wind, and the slots that it leaves
 record Stepped (c : Call) (l : Slots) : Type 0 where
-  answer : Answer
+  answer : Result ⊤ Refusal
   next : Next c l (answer_reply answer) (lent_before c)
 
 -- where the call is turned down the slots stay
@@ -68,10 +64,10 @@ step_by : (c : Call) (l : Slots) → TypedSlots l → (refusal_of (state_of l) c
 step_by c l t done = by-case (refusal-for (state_of l) c)
   where
     by-case : Told (refusal_of (state_of l) c) → Stepped c l
-    by-case (free z) = record { answer = answer.Accepted; next = done z }
+    by-case (free z) = record { answer = Ok tt; next = done z }
     by-case (told n) =
         record {
-          answer = answer.Refused n.why;
+          answer = Err n.why;
           next = record { after = l; meets = turned_down c l n.why n.number; typed = t };
         }
 
@@ -107,32 +103,33 @@ asked c l n e =
     }
 
 -- the machine's reply is that of an answer
-report-answer : (m : State) (lent : List ℕ) → (a : Answer) × (answer_reply a ≡ reply_of m (report lent))
+report-answer : (m : State) (lent : List ℕ) → (a : Result ⊤ Refusal) × (answer_reply a ≡ reply_of m (report lent))
 report-answer m lent = by-case (refusal-for m (report lent))
   where
-    by-case : Told (refusal_of m (report lent)) → (a : Answer) × (answer_reply a ≡ reply_of m (report lent))
-    by-case (free z) = (answer.Accepted, sym (accepted-reply m (report lent) z))
-    by-case (told n) = (answer.Refused n.why, sym (refused-reply m (report lent) n.why (sym n.number)))
+    by-case : Told (refusal_of m (report lent)) → (a : Result ⊤ Refusal) × (answer_reply a ≡ reply_of m (report lent))
+    by-case (free z) = (Ok tt, sym (accepted-reply m (report lent) z))
+    by-case (told n) = (Err n.why, sym (refused-reply m (report lent) n.why (sym n.number)))
 
-write-answer-for : (m : State) (lent : List ℕ) → (a : WriteAnswer) × (write_reply a ≡ reply_of m (write lent))
+write-answer-for : (m : State) (lent : List ℕ) → (a : Result ℕ Refusal) × (write_reply a ≡ reply_of m (write lent))
 write-answer-for m lent = by-case (refusal-for m (write lent))
   where
-    by-case : Told (refusal_of m (write lent)) → (a : WriteAnswer) × (write_reply a ≡ reply_of m (write lent))
-    by-case (free z) = (write-answer.Written _, sym (accepted-reply m (write lent) z))
-    by-case (told n) = (write-answer.Refused n.why, sym (refused-reply m (write lent) n.why (sym n.number)))
+    by-case : Told (refusal_of m (write lent)) → (a : Result ℕ Refusal) × (write_reply a ≡ reply_of m (write lent))
+    by-case (free z) = (Ok _, sym (accepted-reply m (write lent) z))
+    by-case (told n) = (Err n.why, sym (refused-reply m (write lent) n.why (sym n.number)))
 
 -- the first of a list, or none
-first_of : (l : List ℕ) → (a : CheckAnswer) × (check_reply a ≡ accepts (take 1 l))
-first_of [] = (check-answer.NoneOver, refl)
-first_of (i ∷ l) = (check-answer.Over i, refl)
+first_of : (l : List ℕ) → (a : Result (Option ℕ) Refusal) × (check_reply a ≡ accepts (take 1 l))
+first_of [] = (Ok None, refl)
+first_of (i ∷ l) = (Ok (Some i), refl)
 
-check-answer-for : (m : State) → (a : CheckAnswer) × (check_reply a ≡ reply_of m check)
+check-answer-for : (m : State) → (a : Result (Option ℕ) Refusal) × (check_reply a ≡ reply_of m check)
 unfolding topmost_over
-check-answer-for no_tower = (check-answer.Refused refusal.NoTower, refl)
-check-answer-for (standing t none) = (check-answer.Refused refusal.NoWind, refl)
+check-answer-for no_tower = (Err refusal.NoTower, refl)
+check-answer-for (standing t none) = (Err refusal.NoWind, refl)
 check-answer-for (standing t (some w)) = first_of (over_sections t w)
 
--- lifetimes, and a reference to a value, shared or exclusive; no promise names the lifetime, where the value lies, or the name by which it is tracked
+-- lifetimes, and a reference to a value, shared or exclusive; no promise names the lifetime, where the value lies, or
+-- the name by which it is tracked
 abbrev one : Lfts 1
 one = ([], tt)
 
@@ -186,8 +183,8 @@ link-exists l t (wind w) h =
       outcome = _;
       next = r.next.after;
       link =
-          wind-set two (lend_mut l) (lend_mut r.next.after) w.direction w.ice w.factor (lend w.pressures) r.answer k.0 k.1
-          factor.1 ps.1 r.next.meets;
+          wind-set two (lend_mut l) (lend_mut r.next.after)
+          (record { direction = w.direction; ice = w.ice; factor = w.factor; pressures = lend w.pressures }) r.answer k.0 k.1 factor.1 ps.1 r.next.meets;
       typed = r.next.typed;
     }
 link-exists l t (report lent) h =

@@ -1,5 +1,6 @@
--- Chains of calls on a service's state. A link is a call: arguments of the types of the function's parameters, as its signature has them, and the
--- function's own contract, `Post` of the module `Reads` that the check makes of it, of the values passed, the result, and the values at exit.
+-- Chains of calls on a service's state. A link is a call: arguments of the types of the function's parameters, as its
+-- signature has them, and the function's own contract, `Post` of the module `Reads` that the check makes of it, of the
+-- values passed, the result, and the values at exit.
 use Prim.Native.Nat.{ℕ, ◌^◌, ◌<◌}
 use mathlib.Core.Path.{◌≡◌, refl, ap, ◌∙◌}
 use mathlib.Core.Bool.{Bool, true, false}
@@ -11,13 +12,14 @@ use mir.Val.{Fits, bits}
 use contract.Lifetimes.{Lfts}
 use denote.Ref.{Bor}
 use denote.MutBor.{MutBor}
-use Rattle.model.specs.declared.Answer.{Answer}
-use Rattle.model.specs.declared.CheckAnswer.{CheckAnswer}
-use Rattle.model.specs.declared.WriteAnswer.{WriteAnswer}
+use Rattle.std.specs.Prelude.{Option, Result, ⊤}
 use Rattle.model.specs.declared.Item.{Item}
+use Rattle.model.specs.declared.Refusal.{Refusal}
+use Rattle.model.specs.declared.Wind.{Wind}
 use Rattle.model.specs.Answers.{Reply, answer_reply, check_reply, write_reply}
 use Rattle.model.specs.Lists.{all_of}
 use Rattle.model.specs.Machine.{State, no_tower}
+use Rattle.model.specs.Tower.{wind_of}
 use Rattle.model.specs.Calls.{
   Call,
   erect,
@@ -41,7 +43,7 @@ use Rattle.model.specs.Outcomes.{Outcome, is_accepted, last_lent}
 use Rattle.exact.proofs.Bools.{and-join}
 use Rattle.model.proofs.Typed.{ItemBounds, item-bounds, bounds-typed}
 use Rattle.slots.specs.Held.{Slots, is_standing, state_of}
-use Rattle.slots.specs.Promises.{wind_asked, Meets}
+use Rattle.slots.specs.Promises.{Meets}
 use Rattle.service.proofs.changes.fresh.Reads as fresh-reads
 use Rattle.service.proofs.changes.erect.Reads as erect-reads
 use Rattle.service.proofs.changes.hang.Reads as hang-reads
@@ -56,7 +58,7 @@ use Rattle.service.proofs.changes.take_down.Kinds as down-kinds
 use Rattle.service.proofs.changes.set_wind.Kinds as wind-kinds
 use Rattle.service.proofs.answers.report.Kinds as report-kinds
 use Rattle.service.proofs.answers.write.Kinds as write-kinds
-use Rattle.service.proofs.Arguments.{is_number, are_numbers, WellTyped, behind}
+use Rattle.service.proofs.Arguments.{is_number, are_numbers, is_field, are_field, WellTyped, behind}
 
 -- `fresh` left the state so
 pub data IsFresh : Slots → Type 0 where
@@ -66,28 +68,29 @@ pub fresh-state : {f : Slots} → IsFresh f → state_of f ≡ no_tower
 unfolding state_of is_standing
 fresh-state (cleared κ s after p) = ap state_of p
 
--- on this state this call had this outcome and left that state. The arguments are of their parameters' types; the state, parameter 0, may be any value
+-- on this state this call had this outcome and left that state. The arguments are of their parameters' types; the
+-- state, parameter 0, may be any value
 pub data Link : Slots → Call → Outcome → Slots → Type 0 where
-  erected : (κ : Lfts 2) (s after : MutBor Slots) (file : Bor (List ℕ)) (a : Answer) → are_numbers erect-kinds.ps 1 file.now ≡ true
+  erected : (κ : Lfts 2) (s after : MutBor Slots) (file : Bor (List ℕ)) (a : Result ⊤ Refusal) → are_numbers erect-kinds.ps 1 file.now ≡ true
       → erect-reads.Post κ (s, (file, tt)) a (after, (file, tt))
       → Link s.now (erect file.now) (record { reply = answer_reply a; lent = file.now }) after.now
-  hung : (κ : Lfts 1) (s after : MutBor Slots) (it : Item) (a : Answer) → WellTyped κ (behind hang-kinds.ps) (it, tt)
+  hung : (κ : Lfts 1) (s after : MutBor Slots) (it : Item) (a : Result ⊤ Refusal) → WellTyped κ (behind hang-kinds.ps) (it, tt)
       → hang-reads.Post κ (s, (it, tt)) a (after, (it, tt))
       → Link s.now (hang it) (record { reply = answer_reply a; lent = [] }) after.now
-  taken-down : (κ : Lfts 1) (s after : MutBor Slots) (n : ℕ) (a : Answer) → is_number down-kinds.ps 1 n ≡ true
+  taken-down : (κ : Lfts 1) (s after : MutBor Slots) (n : ℕ) (a : Result ⊤ Refusal) → is_number down-kinds.ps 1 n ≡ true
       → down-reads.Post κ (s, (n, tt)) a (after, (n, tt))
       → Link s.now (take_down n) (record { reply = answer_reply a; lent = [] }) after.now
-  wind-set : (κ : Lfts 2) (s after : MutBor Slots) (k ice factor : ℕ) (ps : Bor (List ℕ)) (a : Answer)
-      → is_number wind-kinds.ps 1 k ≡ true → is_number wind-kinds.ps 2 ice ≡ true → is_number wind-kinds.ps 3 factor ≡ true
-      → are_numbers wind-kinds.ps 4 ps.now ≡ true
-      → wind-reads.Post κ (s, (k, (ice, (factor, (ps, tt))))) a (after, (k, (ice, (factor, (ps, tt)))))
-      → Link s.now (wind (wind_asked k ice factor ps.now)) (record { reply = answer_reply a; lent = ps.now }) after.now
-  reported : (κ : Lfts 2) (s : Bor Slots) (out filled : MutBor (List ℕ)) (a : Answer) → are_numbers report-kinds.ps 1 out.now ≡ true
+  wind-set : (κ : Lfts 2) (s after : MutBor Slots) (w : Wind) (a : Result ⊤ Refusal)
+      → is_field wind-kinds.ps 1 0 w.direction ≡ true → is_field wind-kinds.ps 1 1 w.ice ≡ true → is_field wind-kinds.ps 1 2 w.factor ≡ true
+      → are_field wind-kinds.ps 1 3 w.pressures.now ≡ true
+      → wind-reads.Post κ (s, (w, tt)) a (after, (w, tt))
+      → Link s.now (wind (wind_of w)) (record { reply = answer_reply a; lent = w.pressures.now }) after.now
+  reported : (κ : Lfts 2) (s : Bor Slots) (out filled : MutBor (List ℕ)) (a : Result ⊤ Refusal) → are_numbers report-kinds.ps 1 out.now ≡ true
       → report-reads.Post κ (s, (out, tt)) a (s, (filled, tt))
       → Link s.now (report out.now) (record { reply = answer_reply a; lent = filled.now }) s.now
-  checked : (κ : Lfts 1) (s : Bor Slots) (a : CheckAnswer) → check-reads.Post κ (s, tt) a (s, tt)
+  checked : (κ : Lfts 1) (s : Bor Slots) (a : Result (Option ℕ) Refusal) → check-reads.Post κ (s, tt) a (s, tt)
       → Link s.now check (record { reply = check_reply a; lent = [] }) s.now
-  written : (κ : Lfts 2) (s : Bor Slots) (out filled : MutBor (List ℕ)) (a : WriteAnswer) → are_numbers write-kinds.ps 1 out.now ≡ true
+  written : (κ : Lfts 2) (s : Bor Slots) (out filled : MutBor (List ℕ)) (a : Result ℕ Refusal) → are_numbers write-kinds.ps 1 out.now ≡ true
       → write-reads.Post κ (s, (out, tt)) a (s, (filled, tt))
       → Link s.now (write out.now) (record { reply = write_reply a; lent = filled.now }) s.now
 
@@ -128,7 +131,7 @@ pub link-typed : {s s' : Slots} {c : Call} {o : Outcome} → Link s c o s' → t
 link-typed (erected κ s after file a t p) = t
 link-typed (hung κ s after it a t p) = item-typed κ it t
 link-typed (taken-down κ s after n a t p) = t
-link-typed (wind-set κ s after k ice factor ps a t₁ t₂ t₃ t₄ p) = and-join (and-join (and-join t₁ t₂) t₃) t₄
+link-typed (wind-set κ s after w a t₁ t₂ t₃ t₄ p) = and-join (and-join (and-join t₁ t₂) t₃) t₄
 link-typed (reported κ s out filled a t p) = t
 link-typed (checked κ s a p) = refl
 link-typed (written κ s out filled a t p) = t
@@ -142,7 +145,7 @@ pub link-meets : {s s' : Slots} {c : Call} {o : Outcome} → Link s c o s' → M
 link-meets (erected κ s after file a t p) = p
 link-meets (hung κ s after it a t p) = p
 link-meets (taken-down κ s after n a t p) = p
-link-meets (wind-set κ s after k ice factor ps a t₁ t₂ t₃ t₄ p) = p
+link-meets (wind-set κ s after w a t₁ t₂ t₃ t₄ p) = p
 link-meets (reported κ s out filled a t p) = p
 link-meets (checked κ s a p) = p
 link-meets (written κ s out filled a t p) = p

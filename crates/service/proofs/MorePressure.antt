@@ -20,8 +20,8 @@ use Rattle.slots.specs.Held.{Slots}
 use Rattle.service.proofs.Links.{IsFresh, Chain}
 use Rattle.service.proofs.Demand3.{AcceptedReport, Each, none_left, entry-then, force-in, shear-in, moment-in, demand-3}
 
--- somewhere in a list of calls with these outcomes, the machine being given the same list from this state on, a report is
--- accepted: of which tower under which wind, and the slice that it leaves
+-- somewhere in a list of calls with these outcomes, the machine being given the same list from this state on, a report
+-- is accepted: of which tower under which wind, and the slice that it leaves
 pub data AcceptedIn : State → List Call → List Outcome → Tower → Wind → List ℕ → Type 0 where
   this-call : {t : Tower} {w : Wind} {before : List ℕ} {o : Outcome} {cs : List Call} {os : List Outcome} → o.reply.number ≡ 0
       → AcceptedIn (standing t (some w)) (report before ∷ cs) (o ∷ os) t w o.lent
@@ -106,9 +106,9 @@ module _ {t t' : Tower} {w w' : Wind} {rows rows' : List ℕ} (k : Known t w row
               (band-moment t w t' w' k.valid k'.valid g newtons _ _ near near' (i + 1) (omega arith) (omega arith));
         }
 
--- For every two lists of calls, each from a fresh service, and every two reports accepted in them: where no section's pressure
--- is lower at the second one and all else is the same, its numbers are above the first one's less document 02's bounds, and
--- none is less.
+-- For every two lists of calls, each from a fresh service, and every two reports accepted in them: where no section's
+-- pressure is lower at the second one and all else is the same, its numbers are above the first one's less document
+-- 02's bounds, and none is less.
 pub more-pressure : {f s f' s' : Slots} {cs cs' : List Call} {os os' : List Outcome} {t t' : Tower} {w w' : Wind} {rows rows' : List ℕ}
     → IsFresh f → Chain f cs os s → IsFresh f' → Chain f' cs' os' s'
     → AcceptedIn no_tower cs os t w rows → AcceptedIn no_tower cs' os' t' w' rows' → NoLower t w t' w'
@@ -118,8 +118,8 @@ more-pressure a ch b ch' r r' g =
     let k' : _ = known (demand-3 b ch').0 r' in
     (above-less k k' g 2 (omega arith), no_less k k' g)
 
--- And of every accepted report each exact force is the greatest value of document 01's formula at any whole pressure from 0 to
--- the section's.
+-- And of every accepted report each exact force is the greatest value of document 01's formula at any whole pressure
+-- from 0 to the section's.
 pub report-greatest : {f s : Slots} {cs : List Call} {os : List Outcome} {t : Tower} {w : Wind} {rows : List ℕ}
     → IsFresh f → Chain f cs os s → AcceptedIn no_tower cs os t w rows
     → (i : ℕ) → i < length t.sections → Equal (exact_at t w i) (greatest_at t w i)

@@ -1,4 +1,5 @@
--- Each outcome is a function of the machine's state: where two values stand for the same state, the same calls have the same outcomes.
+-- Each outcome is a function of the machine's state: where two values stand for the same state, the same calls have the
+-- same outcomes.
 use Prim.Native.Nat.{ℕ}
 use mathlib.Core.Path.{◌≡◌, refl, ap, sym, ◌∙◌}
 use mathlib.Core.List.{List, ◌∷◌}
