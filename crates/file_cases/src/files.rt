@@ -1,90 +1,57 @@
-// The file of a line, made from the base file, which stands in it at first. Each function answers how many bytes it has.
-ghost use Rattle.std.specs.Prelude.{◌+◌, ◌≤◌, length};
-ghost use Rattle.file_cases.specs.Bounds.{InRoom};
+// Files made of a line's numbers, and of the base file.
+ghost use Rattle.std.specs.Prelude.{◌≡◌, ◌≤◌, ◌++◌, length, IfOk};
+ghost use Rattle.arrayvec.specs.ArrayVec.{array_vec_len};
 
-use crate::{Fault, Found, Kind};
+use crate::wrong::Wrong;
+use arrayvec::ArrayVec;
 
-fn all_bytes(numbers: &[u64]) -> bool {
-    for i in 0usize..numbers.len() {
-        if 255 < numbers[i] {
-            return false;
-        }
-    }
-    true
-}
+pub(crate) const MOST_BYTES: usize = 4000;
 
-fn put_all(file: &mut [u8], at: usize, numbers: &[u64])
-    requires { at + length numbers.now ≤ length file.old }
+pub(crate) type File = ArrayVec<u8, MOST_BYTES>;
+
+pub(crate) fn bytes_of(numbers: &[u64]) -> Result<File, Wrong>
+    ensures { IfOk result (λ file. file.items ≡ numbers.now) }
 {
-    for i in 0usize..numbers.len() {
-        file[at + i] = (numbers[i] % 256) as u8;
+    let mut file = File::new();
+    for n in numbers {
+        let byte = u8::try_from(*n).map_err(|_| Wrong::Byte)?;
+        file.try_push(byte).map_err(|_| Wrong::Range)?;
     }
+    Ok(file)
 }
 
-// The first bytes, and the numbers behind them.
-fn longer(file: &mut [u8], count: usize, numbers: &[u64]) -> Found
-    requires { count ≤ length file.old }
-    ensures { InRoom (length file.old) result }
+// The base, and the numbers behind it.
+pub(crate) fn longer(base: &[u8], numbers: &[u64]) -> Result<File, Wrong>
+    ensures { IfOk result (λ file. file.items ≡ base.now ++ numbers.now) }
 {
-    if !all_bytes(numbers) {
-        return Found::Wrong(Fault::Byte);
-    }
-    if file.len() - count < numbers.len() {
-        return Found::Wrong(Fault::Range);
-    }
-    put_all(file, count, numbers);
-    Found::Of(count + numbers.len())
+    let bytes = bytes_of(numbers)?;
+    let mut file = File::try_from(base)?;
+    file.try_extend_from_slice(&bytes)?;
+    Ok(file)
 }
 
-// One number, which is no more than most.
-fn first(most: usize, numbers: &[u64]) -> Found
-    ensures { InRoom most result }
-{
-    if numbers.len() != 1 {
-        return Found::Wrong(Fault::Count);
-    }
-    let n = numbers[0] as usize;
-    if most < n {
-        return Found::Wrong(Fault::Range);
-    }
-    Found::Of(n)
-}
-
-// Places, each with the byte that it gets.
-fn changed(file: &mut [u8], count: usize, numbers: &[u64]) -> Found
-    requires { count ≤ length file.old }
-    ensures { InRoom (length file.old) result }
+// Places of the base, each with the byte that it gets.
+pub(crate) fn changed(base: &[u8], numbers: &[u64]) -> Result<File, Wrong>
+    ensures { IfOk result (λ file. array_vec_len file ≡ length base.now) }
 {
     if numbers.len() % 2 != 0 {
-        return Found::Wrong(Fault::Count);
+        return Err(Wrong::Count);
     }
-    let mut i: usize = 0;
-    while i + 1 < numbers.len() {
-        let at = numbers[i] as usize;
-        let b = numbers[i + 1];
-        if count <= at {
-            return Found::Wrong(Fault::Range);
-        }
-        if 255 < b {
-            return Found::Wrong(Fault::Byte);
-        }
-        file[at] = b as u8;
-        i += 2;
+    let mut file = File::try_from(base)?;
+    for pair in numbers.chunks_exact(2) {
+        let byte = file.get_mut(pair[0] as usize).ok_or(Wrong::Range)?;
+        *byte = u8::try_from(pair[1]).map_err(|_| Wrong::Byte)?;
     }
-    Found::Of(count)
+    Ok(file)
 }
 
-// For r it answers how many bytes are lent: no more than a file may have.
-pub fn build(kind: Kind, file: &mut [u8], count: usize, numbers: &[u64]) -> Found
-    requires { count ≤ length file.old }
-    ensures { InRoom (length file.old) result }
+// One number, which is at most `most`.
+pub(crate) fn at_most(most: usize, numbers: &[u64]) -> Result<usize, Wrong>
+    ensures { IfOk result (λ n. n ≤ most) }
 {
-    match kind {
-        Kind::File => longer(file, 0, numbers),
-        Kind::First => first(count, numbers),
-        Kind::Changed => changed(file, count, numbers),
-        Kind::Longer => longer(file, count, numbers),
-        Kind::Room => first(file.len(), numbers),
-        Kind::None => Found::Wrong(Fault::Case),
+    match numbers {
+        [n] if *n as usize <= most => Ok(*n as usize),
+        [_] => Err(Wrong::Range),
+        _ => Err(Wrong::Count),
     }
 }

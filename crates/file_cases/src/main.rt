@@ -9,160 +9,54 @@
 // few. A file, and what is lent, has at most 4000 bytes. Any other line is answered by what is wrong with it first.
 #![tactic(auto)]
 
+mod answers;
 mod cases;
 mod digest;
 mod files;
-mod replies;
+mod wrong;
 
-ghost use Rattle.std.specs.Prelude.{◌≤◌, ◌≡◌, length};
-ghost use Rattle.file_cases.specs.Bounds.{InRoom};
-
-use crate::cases::{kind_of, numbers_in};
-use crate::files::build;
-use crate::replies::{answer_file, answer_room, put_fault};
-use lines::scan::find;
+use crate::answers::{Answer, answer_file, answer_room};
+use crate::cases::{Kind, kind_of, numbers_in};
+use crate::files::{File, at_most, bytes_of, changed, longer};
+use crate::wrong::Wrong;
 use std::io;
 use std::io::Read;
 
-// What a line is, by its first byte.
-#[derive(Clone, Copy)]
-enum Kind {
-    File,
-    First,
-    Changed,
-    Longer,
-    Room,
-    None,
-}
+const MOST_INPUT: usize = 500_000;
 
-// What is wrong with a line.
-#[derive(Clone, Copy)]
-enum Fault {
-    Case,
-    Numbers,
-    Large,
-    Many,
-    Count,
-    Byte,
-    Range,
-}
-
-// How many numbers or bytes there are, or what is wrong with the line.
-#[derive(Clone, Copy)]
-enum Found {
-    Of(usize),
-    Wrong(Fault),
-}
-
-// A file: its first `count` bytes.
-#[derive(Clone, Copy)]
-struct File {
-    count: usize,
-    bytes: [u8; 4000],
-}
-
-// A line's file, which has so many bytes. For r that is how many are lent.
-#[derive(Clone, Copy)]
-struct Case {
-    kind: Kind,
-    found: Found,
-    bytes: [u8; 4000],
-}
-
-fn no_numbers() -> [u64; 4000]
-    ensures { 4000 ≡ length result }
-{
-    [0; 4000]
-}
-
-fn found_in(kind: Kind, line: &[u8], file: &mut [u8], count: usize) -> Found
-    requires { count ≤ length file.old }
-    ensures { InRoom (length file.old) result }
-{
-    let mut numbers = no_numbers();
-    let found = numbers_in(kind, line, &mut numbers);
-    let Found::Of(n) = found else {
-        return found;
-    };
-    build(kind, file, count, &numbers[..n])
-}
-
-fn case_of(line: &[u8], base: File) -> Case
-    requires { base.count ≤ 4000 }
-    ensures { InRoom 4000 result.found }
-{
-    let kind = kind_of(line);
-    let mut bytes = base.bytes;
-    let found = found_in(kind, line, &mut bytes, base.count);
-    Case { kind, found, bytes }
-}
-
-// Puts the answer, a line, into out and answers its length.
-fn answer(c: Case, base: File, out: &mut [u8]) -> usize
-    requires { InRoom 4000 c.found × (base.count ≤ 4000) }
-    ensures { result ≤ length out.old }
-{
-    let kind = c.kind;
-    let found = c.found;
-    match found {
-        Found::Wrong(why) => put_fault(out, why),
-        Found::Of(n) => {
-            if let Kind::Room = kind {
-                let bytes = base.bytes;
-                let count = base.count;
-                return answer_room(&bytes[..count], n, out);
-            }
-            let bytes = c.bytes;
-            answer_file(&bytes[..n], out)
+// f makes its file the base.
+fn answer_line(line: &[u8], base: &mut File) -> Result<Answer, Wrong> {
+    let kind = kind_of(line).ok_or(Wrong::Case)?;
+    let mut numbers = [0; files::MOST_BYTES];
+    let numbers = numbers_in(kind, line, &mut numbers)?;
+    match kind {
+        Kind::File => {
+            *base = bytes_of(numbers)?;
+            answer_file(base)
         }
+        Kind::First => answer_file(&base[..at_most(base.len(), numbers)?]),
+        Kind::Changed => answer_file(&changed(base, numbers)?),
+        Kind::Longer => answer_file(&longer(base, numbers)?),
+        Kind::Room => answer_room(base, at_most(files::MOST_BYTES, numbers)?),
     }
 }
 
-// The base file of the next line.
-fn next_base(c: Case, base: File) -> File
-    requires { InRoom 4000 c.found × (base.count ≤ 4000) }
-    ensures { result.count ≤ 4000 }
-{
-    let kind = c.kind;
-    let found = c.found;
-    let Kind::File = kind else {
-        return base;
-    };
-    let Found::Of(count) = found else {
-        return base;
-    };
-    let bytes = c.bytes;
-    File { count, bytes }
-}
-
-fn no_file() -> File
-    ensures { result.count ≡ 0 }
-{
-    let bytes = [0; 4000];
-    File { count: 0, bytes }
-}
-
-fn answer_all(rt: &impl Print, text: &[u8], out: &mut [u8]) -> io::Result<()> {
-    let mut base = no_file();
-    let mut at: usize = 0;
-    while at < text.len() {
-        let end = find(text, at, text.len(), b'\n');
-        let c = case_of(&text[at..end], base);
-        let n = answer(c, base, out);
-        rt.write_all(&out[0..n])?;
-        base = next_base(c, base);
-        at = end + 1;
+fn answer_all(rt: &impl Print, text: &[u8]) -> io::Result<()> {
+    let mut base = File::new();
+    for line in text.split_inclusive(|b| *b == b'\n') {
+        match answer_line(line.strip_suffix(b"\n").unwrap_or(line), &mut base) {
+            Ok(answer) => println!(rt; "{answer}")?,
+            Err(wrong) => println!(rt; "{wrong}")?,
+        }
     }
     Ok(())
 }
 
-// The input may have 500 000 bytes.
 fn main(rt: HostRuntime) -> io::Result<()> {
     let mut text = Vec::new(rt.alloc());
     rt.stdin().take(500_001).read_to_end(&mut text)?;
-    if 500_000 < text.len() {
-        return rt.write_all(b"error: the input is too long\n");
+    if MOST_INPUT < text.len() {
+        return println!(rt; "error: the input is too long");
     }
-    let mut out = [0u8; 128];
-    answer_all(&rt, &text, &mut out)
+    answer_all(&rt, &text)
 }

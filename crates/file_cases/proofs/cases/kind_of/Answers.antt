@@ -1,15 +1,15 @@
-use Rattle.std.proofs.Common.{◌∙◌}
+use Rattle.std.proofs.Common.{◌∙◌, arith}
 use Rattle.file_cases.proofs.Letters.{nothing, alone, spaced, joined-on}
 use Rattle.file_cases.proofs.cases.kind_of.Goals as goal
 
-pub returns-then-line-eq0 : goal.returns-then-line-eq0
-returns-then-line-eq0 c = nothing _ c.if-line-eq0.true
+pub returns-in-len1 : goal.returns-in-len1
+returns-in-len1 c = c.kind_byte.ensures ∙ alone _ (omega arith)
 
-pub returns-then-line-eq1 : goal.returns-then-line-eq1
-returns-then-line-eq1 c = c.kind_byte-kind.ensures ∙ alone _ c.if-line-eq1.true
+pub returns-in-len2-up : goal.returns-in-len2-up
+returns-in-len2-up c = c.kind_byte-in-len2-up.ensures ∙ spaced _ c.in-len2-up.len_at_least c.if-space-eq32.true
 
-pub returns-then-line-eq32 : goal.returns-then-line-eq32
-returns-then-line-eq32 c = c.kind_byte-kind.ensures ∙ spaced _ c.if-line-eq0.false c.if-line-eq1.false c.if-line-eq32.true
+pub returns-in_default : goal.returns-in_default
+returns-in_default c = nothing _ c.in_default.len_below
 
-pub returns : goal.returns
-returns c = joined-on _ c.if-line-eq0.false c.if-line-eq1.false c.if-line-eq32.false
+pub returns-in_default-2 : goal.returns-in_default-2
+returns-in_default-2 c = joined-on _ c.in-len2-up.len_at_least c.if-space-eq32.false

@@ -1,28 +1,28 @@
-use Rattle.std.proofs.Common.{◌≡◌, map, take, length, arith}
+use Rattle.std.proofs.Common.{[], ◌∷◌, map, length}
 use Rattle.std.proofs.lemmas.List.{length-map}
+use Rattle.model.specs.Lists.{joined}
+use Rattle.model.specs.Bytes.{legs_number}
 use Rattle.model.specs.Tower.{section_of}
-use Rattle.lines.specs.Digest.{digest}
-use Rattle.lines.proofs.Mixing.{digest-append}
-use Rattle.file_cases.proofs.Mixing.{LeastTaken, least-taken}
+use Rattle.lines.specs.Digest.{start}
+use Rattle.file_cases.specs.Digest.{section_values, item_values}
+use Rattle.file_cases.proofs.Mixing.{joined-map, digest_parts}
 use Rattle.file_cases.proofs.digest.tower_digest.Goals as goal
 
 pub returns : goal.returns
-unfolding digest
+unfolding joined
 returns c =
-    let t = c.args.t in
-    let k : LeastTaken t.sections t.count c.least-count.result = least-taken t.sections 32 t.count _ (omega arith) c.least-count.ensures.0 in
-    let m : LeastTaken t.items t.held c.least-held.result = least-taken t.items 64 t.held _ (omega arith) c.least-held.ensures.0 in
-    let n : c.least-count.result ≡ length (map section_of (take t.count t.sections)) = rw length-map k.count in
+    let t = c.args.tower.now in
     rw (
-      digest-append,
-      c.mix_items.ensures,
-      c.mix-d-3.ensures,
-      c.mix_sections-d.ensures,
-      c.mix-d-2.ensures,
+      c.mix_each.ensures,
+      c.deref-2.ensures.0,
       c.mix-d.ensures,
-      c.legs_number.ensures,
-      ← m.count,
-      ← m.part,
-      ← n,
-      ← k.part,
+      c.len-2.ensures.value,
+      c.mix_each-d-2.ensures,
+      c.deref.ensures.0,
+      c.mix_each-d.ensures,
+      c.from.ensures,
+      c.len.ensures.value,
+      joined-map section_values section_of t.sections.items,
+      length-map t.sections.items section_of,
     )
+    (digest_parts start (legs_number t.legs ∷ length t.sections.items ∷ []) (joined section_values (map section_of t.sections.items)) (length t.items.items) (joined item_values t.items.items))
