@@ -4,16 +4,9 @@ use Prim.Native.Nat.{ℕ, ◌+◌, ◌*◌, ◌^◌, ◌≤◌, ◌<◌}
 use native.Mathlib.Omega.{arith}
 use native.Mathlib.Nat.{mul-le-mul, mul-le-mul_right, add-le-add, lt_of_le_of_lt}
 use borrow.Author.Tests.{leb-true}
-use Rattle.model.specs.declared.Legs.TheVariants.{Three, Four}
-use Rattle.model.specs.declared.Areas.{Areas}
-use Rattle.model.specs.Areas.{solid, largest_gross}
-use Rattle.force.specs.declared.coefficients.TheConstants.{THREE, FOUR}
-use Rattle.force.specs.Coefficients.{sum_by, root_by}
-use Rattle.model.specs.WholeForm.{incidence_den, face_den, flat_num, subcritical_num, supercritical_num, face_num, root_num}
-
-pub open-sum : (a : Areas) (e n : ℕ) → (solid a).0 + e ≤ n → a.flat.0 + a.subcritical.0 + a.supercritical.0 + e ≤ n
-unfolding solid
-open-sum a e n h = h
+use Rattle.model.specs.declared.Legs.TheVariants.{Three}
+use Rattle.model.specs.Areas.{largest_gross}
+use Rattle.model.specs.WholeForm.{incidence_den, face_den}
 
 -- the terms of a quadratic, with A_u at most 15 m by 10 m
 pub record Terms (a b c s e : ℕ) : Type 0 where
@@ -31,10 +24,6 @@ terms a b c s e ha hb hc h =
       second = mul-le-mul_right (s * e) hb;
       third = mul-le-mul_right (e * e) hc;
     }
-
--- a factor of an area, in millionths
-pub scaled : (k f : ℕ) → k ≤ 9500 → f ≤ largest_gross → k * 1_000_000 * f ≤ 9500 * 1_000_000 * largest_gross
-scaled k f hk hf = mul-le-mul {n₁ = k * 1_000_000} {m₁ = f} {n₂ = 9500 * 1_000_000} {m₂ = largest_gross} (omega arith) hf
 
 -- a product of words
 pub words-fit : (x y : ℕ) → x < 2 ^ 64 → y < 2 ^ 64 → x * y < 2 ^ 128
@@ -59,25 +48,7 @@ three-fit x x1 y y1 z z1 hx hx1 hy hy1 hz hz1 =
 pub in-millionths : (x y u f c p i j k : ℕ) → x * (i * 1_000_000 * f) + y * (j * 1_000_000 * c) + u * (k * 1_000_000 * p) ≡ (i * x * f + j * y * c + k * u * p) * 1_000_000
 in-millionths x y u f c p i j k = omega arith
 
--- by the legs
-pub sum-three : (a : Areas) (e : ℕ) → sum_by THREE a e ≡ face_num Three a e
-unfolding face_num flat_num subcritical_num supercritical_num
-sum-three a e = refl
-
-pub sum-four : (a : Areas) (e : ℕ) → sum_by FOUR a e ≡ face_num Four a e
-unfolding face_num flat_num subcritical_num supercritical_num
-sum-four a e = go ((solid a).0)
-  where
-    go : (S : ℕ)
-        → 396 * (1 * (S * S) + 1 * (S * e) + 2 * (e * e)) * a.flat.0 + 25 * (16 * (S * S) + 9 * (S * e) + 18 * (e * e)) * a.subcritical.0 + 380 * ((S + e) * (S + e)) * a.supercritical.0
-        ≡ 396 * (S * S + S * e + 2 * (e * e)) * a.flat.0 + 25 * (16 * (S * S) + 9 * (S * e) + 18 * (e * e)) * a.subcritical.0 + 380 * ((S + e) * (S + e)) * a.supercritical.0
-    go S = omega arith
-
 -- the divisor
-pub divisor-four : (s e : ℕ) → 400 * s * (s + e) * (200 * ((s + e) * (s + e))) ≡ incidence_den Four s e * face_den Four (s + e)
-unfolding incidence_den face_den
-divisor-four s e = refl
-
 pub divisor-fits : (s u : ℕ) → s ≤ largest_gross → u ≤ largest_gross → 400 * s * u * (200 * (u * u)) < 2 ^ 128
 divisor-fits s u hs hu = words-fit (400 * s * u) (200 * (u * u)) (omega (arith, areas-fit s u hs hu)) (omega (arith, areas-fit u u hu hu))
 
@@ -87,12 +58,3 @@ divisor-three s e = regroup (s + e)
   where
     regroup : (u : ℕ) → 20 * s * u * (5000 * u) ≡ 20 * s * (5000 * (u * u))
     regroup u = omega arith
-
--- the root
-pub root-three : (s e : ℕ) → root_by THREE s e ≡ root_num Three s e
-unfolding root_num
-root-three s e = refl
-
-pub root-four : (s e : ℕ) → root_by FOUR s e ≡ root_num Four s e
-unfolding root_num
-root-four s e = refl

@@ -1,5 +1,5 @@
-// The coefficients c_f, c_c and c_p of a face, as whole numbers over `face_den` of model/specs/WholeForm. s is A_S and e
-// the open area A_u − A_S.
+// The coefficients c_f, c_c and c_p of a face, as whole numbers over `face_den` of model/specs/WholeForm. s is A_S and
+// e the open area A_u − A_S.
 ghost use Rattle.std.specs.Prelude.{◌≡◌, ◌+◌, ◌*◌, ◌^◌, ◌<◌, ◌≤◌};
 ghost use Rattle.model.specs.Areas.{solid, largest_gross};
 ghost use Rattle.force.specs.Coefficients.{Small, quadratic_at, sum_by, root_by};
@@ -15,8 +15,8 @@ pub(crate) struct Quadratic {
     pub c: u64,
 }
 
-// flat_factor · flat and subcritical_factor · subcritical are c_f and c_c; supercritical · A_u² is 1.9; the number under
-// the root of c_p is root_factor · e (root_solid s + root_open e).
+// flat_factor · flat and subcritical_factor · subcritical are c_f and c_c; supercritical · A_u² is 1.9; the number
+// under the root of c_p is root_factor · e (root_solid s + root_open e).
 #[derive(Clone, Copy)]
 pub(crate) struct Coefficients {
     pub flat_factor: u64,
@@ -56,6 +56,7 @@ pub(crate) const FOUR: Coefficients = Coefficients {
 };
 
 impl Quadratic {
+    #[tactic(auto, unfolding(model::specs::Areas::solid))]
     fn at(self, face: FaceAreas) -> u64
         requires { (self.a ≤ 403) × (self.b ≤ 403) × (self.c ≤ 403) }
         ensures { result ≡ quadratic_at self (solid face.areas).0 face.gap.0 }

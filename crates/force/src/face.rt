@@ -8,7 +8,7 @@ use model::{Areas, Legs};
 use units::Area;
 
 // The areas of a face, and its open area A_u − A_S.
-#[derive(Clone, Copy)]
+#[derive(Clone, Copy, Debug, PartialEq, Eq, Hash)]
 pub struct FaceAreas {
     pub areas: Areas,
     pub gap: Area,
@@ -38,6 +38,7 @@ impl FaceAreas {
     }
 
     // A_p A_u, which the root of c_p is taken times.
+    #[tactic(auto, unfolding(model::specs::Areas::solid))]
     pub(crate) fn root_weight(self) -> u64
         ensures { result ≡ self.areas.supercritical.0 * (gross_of self.areas self.gap.0).0 }
     {
@@ -45,6 +46,7 @@ impl FaceAreas {
     }
 
     // c_f A_f + c_c A_c + 1.9 A_p, over `face_den` and in millionths of mm², as the items' sum is.
+    #[tactic(auto, unfolding(model::specs::WholeForm::face_num, model::specs::WholeForm::flat_num, model::specs::WholeForm::subcritical_num, model::specs::WholeForm::supercritical_num))]
     pub(crate) fn sum(self, legs: Legs) -> u128
         ensures { result ≡ face_num legs self.areas self.gap.0 * 1_000_000 }
     {
@@ -55,6 +57,7 @@ impl FaceAreas {
     }
 
     // What Kθ and the coefficients together are divided by.
+    #[tactic(auto, unfolding(model::specs::WholeForm::incidence_den, model::specs::WholeForm::face_den))]
     pub(crate) fn divisor(self, legs: Legs) -> u128
         ensures { result ≡ incidence_den legs (solid self.areas).0 self.gap.0 * face_den legs (gross_of self.areas self.gap.0).0 }
     {
@@ -67,6 +70,7 @@ impl FaceAreas {
         }
     }
 
+    #[tactic(auto, unfolding(model::specs::WholeForm::root_num))]
     pub(crate) fn root(self, legs: Legs) -> Root
         ensures { result.open * result.linear ≡ root_num legs (solid self.areas).0 self.gap.0 }
     {

@@ -25,28 +25,19 @@ fn numerator(x: Linear, g: u128) -> U256
     g.widening_mul(by_face) + x.divisor.widening_mul(by_items)
 }
 
-// (factored · incidence · 10⁶ · A_p · A_u)² · root
-fn supercritical_radicand(legs: Legs, face: FaceAreas, factored: u64, incidence: u64) -> U512
-    requires { factored ≤ 10_000_000 }
-    ensures { let r = factored * incidence * 1_000_000 * face.areas.supercritical.0 * (gross_of face.areas face.gap.0).0 in value512 result ≡ r * r * root_num legs (solid face.areas).0 face.gap.0 }
-{
-    let root = face.root(legs);
-    let r = (factored * 1_000_000) as u128 * face.root_weight() as u128;
-    let x = r.widening_mul(incidence as u128 * root.open as u128);
-    let y = r.widening_mul(incidence as u128 * root.linear as u128);
-    x.widening_mul(y)
-}
-
-// The radicand; there is none to work out without supercritical members.
+// (factored · incidence · 10⁶ · A_p · A_u)² · root, and nothing to work out without supercritical members
 fn radicand(legs: Legs, face: FaceAreas, factored: u64, incidence: u64) -> U512
     requires { factored ≤ 10_000_000 }
     ensures { let r = factored * incidence * 1_000_000 * face.areas.supercritical.0 * (gross_of face.areas face.gap.0).0 in value512 result ≡ r * r * root_num legs (solid face.areas).0 face.gap.0 }
 {
     if face.areas.supercritical.0 == 0 {
-        U512::zero()
-    } else {
-        supercritical_radicand(legs, face, factored, incidence)
+        return U512::zero();
     }
+    let root = face.root(legs);
+    let r = (factored * 1_000_000) as u128 * face.root_weight() as u128;
+    let x = r.widening_mul(incidence as u128 * root.open as u128);
+    let y = r.widening_mul(incidence as u128 * root.linear as u128);
+    x.widening_mul(y)
 }
 
 // By squares, where there is a root.

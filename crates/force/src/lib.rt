@@ -41,14 +41,9 @@ pub enum Way {
     Squares,
 }
 
+// A force or a load, and what decided it.
 #[derive(Clone, Copy, Debug, PartialEq, Eq, Hash)]
-pub struct DecidedForce {
-    pub force: Force,
-    pub way: Way,
-}
-
-#[derive(Clone, Copy, Debug, PartialEq, Eq, Hash)]
-pub struct DecidedLoad {
-    pub load: Load,
+pub struct Decided<T> {
+    pub value: T,
     pub way: Way,
 }

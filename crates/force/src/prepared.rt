@@ -1,5 +1,5 @@
 // The force on a face in two steps: what does not depend on direction, pressure and items, and the rest. It is decided
-// by bounds, in numbers of at most 192 bits; what they leave open, by an exact comparison.
+// by bounds; what they leave open, by an exact comparison.
 ghost use Rattle.std.specs.Prelude.{◌≡◌, ◌+◌, ◌*◌, ◌≤◌, ◌<◌, IfSome, IfOk, IsSomeAnd};
 ghost use Rattle.std.proofs.Props.{props};
 ghost use Rattle.model.specs.Areas.{solid};
@@ -10,7 +10,7 @@ ghost use Rattle.force.specs.Prepared.{root_square};
 
 use crate::face::FaceAreas;
 use crate::least::least_force;
-use crate::{DecidedForce, Way};
+use crate::{Decided, Way};
 use model::Legs;
 use rounding::bounds::{Bounds, Linear};
 use units::Force;
@@ -18,7 +18,7 @@ use units::Force;
 // What the force on a face takes neither from direction nor from pressure nor from items, as whole numbers: the sum
 // c_f A_f + c_c A_c + 1.9 A_p in millionths of mm², what it is divided by, and bounds of the sum less its root, where
 // these are known.
-#[derive(Clone, Copy)]
+#[derive(Clone, Copy, Debug, PartialEq, Eq, Hash)]
 pub struct PreparedFace {
     pub legs: Legs,
     pub face: FaceAreas,
@@ -31,7 +31,7 @@ pub struct PreparedFace {
 }
 
 // What loads a face: the wind's direction and structure factor, the pressure on the section, and its items' sum.
-#[derive(Clone, Copy)]
+#[derive(Clone, Copy, Debug, PartialEq, Eq, Hash)]
 pub struct Loading {
     pub direction: u32,
     pub factor: u32,
@@ -86,26 +86,26 @@ impl PreparedFace {
     }
 
     // The least whole number of newtons in the wind.
-    pub fn force_in(self, w: Loading) -> DecidedForce
+    pub fn force_in(self, w: Loading) -> Decided<Force>
         requires { 0 < (solid self.face.areas).0 }
-        ensures { Least (only (force_on self w)) result.force.0 }
+        ensures { Least (only (force_on self w)) result.value.0 }
     {
-        let factor = w.pressure as u64 * w.factor as u64;
-        if factor == 0 {
-            return DecidedForce {
-                force: Force(0),
+        let factored = w.pressure as u64 * w.factor as u64;
+        if factored == 0 {
+            return Decided {
+                value: Force(0),
                 way: Way::NoPressure,
             };
         }
         let x = Linear {
-            factor,
+            factor: factored,
             slope: self.face.incidence(self.legs, w.direction),
             offset: w.items,
             divisor: self.divisor,
         };
         match self.by_bounds(x) {
-            Ok(f) => DecidedForce {
-                force: Force(f),
+            Ok(f) => Decided {
+                value: Force(f),
                 way: Way::Bounds,
             },
             Err(near) => self.compared(w, x, near),
@@ -114,21 +114,21 @@ impl PreparedFace {
 
     // The least whole number of newtons by an exact comparison: without a root beside the number that is near, else by
     // squares.
-    fn compared(self, w: Loading, x: Linear, near: Option<u64>) -> DecidedForce
+    fn compared(self, w: Loading, x: Linear, near: Option<u64>) -> Decided<Force>
         requires { (0 < (solid self.face.areas).0) × LinearOf self w x }
-        ensures { Least (only (force_on self w)) result.force.0 }
+        ensures { Least (only (force_on self w)) result.value.0 }
     {
         if self.face.areas.supercritical.0 == 0
             && let Some(n) = near
             && let Some(f) = x.least_beside(self.sum, n)
         {
-            return DecidedForce {
-                force: Force(f),
+            return Decided {
+                value: Force(f),
                 way: Way::Quotient,
             };
         }
-        DecidedForce {
-            force: least_force(self, w, x),
+        Decided {
+            value: least_force(self, w, x),
             way: Way::Squares,
         }
     }

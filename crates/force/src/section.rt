@@ -5,14 +5,14 @@ ghost use Rattle.areas.specs.Fits.{fits_under};
 
 use crate::face::FaceAreas;
 use crate::prepared::Loading;
-use crate::{DecidedForce, DecidedLoad, Load, LoadCase};
+use crate::{Decided, Load, LoadCase};
 use areas::face::Face;
 use areas::iced::IcedSection;
 use model::{Areas, Section};
-use units::Area;
+use units::{Area, Force};
 
 // A section that stands under its ice, with the pressure on it and the sum of its items.
-#[derive(Clone, Copy)]
+#[derive(Clone, Copy, Debug, PartialEq, Eq)]
 pub struct LoadedSection<'a> {
     pub case: LoadCase,
     pub section: &'a Section,
@@ -53,9 +53,9 @@ impl<'a> LoadedSection<'a> {
     }
 
     // What document 01's formula gives in a wind of this pressure, rounded up; `areas` are the section's then.
-    fn formula_force(&self, pressure: u16, areas: Areas) -> DecidedForce
+    fn formula_force(&self, pressure: u16, areas: Areas) -> Decided<Force>
         requires { (pressure ≤ 5000) × (areas ≡ areas_in self.now pressure) }
-        ensures { Least (only (formula_in self.now pressure)) result.force.0 }
+        ensures { Least (only (formula_in self.now pressure)) result.value.0 }
     {
         let face = FaceAreas {
             areas,
@@ -70,19 +70,14 @@ impl<'a> LoadedSection<'a> {
     }
 
     // What the formula gives under the full pressure, rounded up, and what decided it.
-    pub fn formula_load(&self) -> DecidedLoad
-        ensures areas { result.load.areas ≡ areas_in self.now self.now.pressure }
-        ensures force { Least (only (formula_in self.now self.now.pressure)) result.load.force.0 }
+    pub fn formula_load(&self) -> Decided<Load>
+        ensures areas { result.value.areas ≡ areas_in self.now self.now.pressure }
+        ensures force { Least (only (formula_in self.now self.now.pressure)) result.value.force.0 }
     {
         let areas = self.face().areas(self.case.ice, self.pressure);
-        let decided = self.formula_force(self.pressure, areas);
-        DecidedLoad {
-            load: Load {
-                areas,
-                force: decided.force,
-            },
-            way: decided.way,
-        }
+        let Decided { value: force, way } = self.formula_force(self.pressure, areas);
+        let value = Load { areas, force };
+        Decided { value, way }
     }
 
     // The load where these are the areas at full pressure. Its force is the greatest of the formula's values at full
@@ -91,14 +86,14 @@ impl<'a> LoadedSection<'a> {
         requires { areas ≡ areas_in self.now self.now.pressure }
         ensures { Loaded self.now result }
     {
-        let mut force = self.formula_force(self.pressure, areas).force;
+        let mut force = self.formula_force(self.pressure, areas).value;
         if areas.supercritical.0 != 0 {
             let ice = self.case.ice;
             let face = self.face();
             let mut next = 0;
             while let Some(wind) = face.next_wind(ice.thickness, self.pressure, next) {
                 let here = face.areas(ice, wind.pressure);
-                force = force.max(self.formula_force(wind.pressure, here).force);
+                force = force.max(self.formula_force(wind.pressure, here).value);
                 next = wind.group + 1;
             }
         }

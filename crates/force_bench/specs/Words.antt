@@ -20,7 +20,8 @@ force_in c items i =
 unfoldable pub total_of : Case → ℕ → ℕ → ℕ
 total_of c items rounds = sum_to (force_in c items) rounds % 2 ^ 64
 
--- words that are timed: a case with no fault, at a pressure that may fall by 15, then the items' sum, and nothing after it
+-- words that are timed: a case with no fault, at a pressure that may fall by 15, then the items' sum, and nothing
+-- after it
 abbrev pub is_timed : List ℕ → Case → Bool
 is_timed ws c =
     is_none (fault_of c (length ws))

@@ -1,7 +1,7 @@
-// Reads cases from standard input, one a line, and prints for each its areas, the items' sum and the force, or what is wrong with it first.
-// The last line says how many forces each way decided.
-// A line is LEGS K ICE FACTOR PRESSURE WIDTH HEIGHT GROUPCOUNT (KIND SIZE LENGTH)* ITEMCOUNT (SECTION WIDTH LENGTH BARE ICED POSITION)*.
-// The case's section is number 0: items on other sections do not count.
+// Reads cases from standard input, one a line, and prints for each its areas, the items' sum and the force, or what is
+// wrong with it first. The last line says how many forces each way decided.
+// A line is LEGS K ICE FACTOR PRESSURE WIDTH HEIGHT GROUPCOUNT (KIND SIZE LENGTH)* ITEMCOUNT
+// (SECTION WIDTH LENGTH BARE ICED POSITION)*. The case's section is number 0: items on other sections do not count.
 #![tactic(auto)]
 
 mod items;

@@ -1,5 +1,5 @@
 use Rattle.std.proofs.Common.{arith}
-use Rattle.force.proofs.FaceSums.{divisor-fits, divisor-four, divisor-three}
+use Rattle.force.proofs.FaceSums.{divisor-fits, divisor-three}
 use Rattle.force.proofs.face.FaceAreas.divisor.Goals as goal
 
 pub overflow_mul-result-in-Four-5 : goal.overflow_mul-result-in-Four-5
@@ -9,6 +9,3 @@ overflow_mul-result-in-Four-5 c =
 
 pub returns-in-Three : goal.returns-in-Three
 returns-in-Three c = rw (c.in-Three.is, c.solid-s.ensures, c.gross-u.ensures) (divisor-three _ _)
-
-pub returns-in-Four : goal.returns-in-Four
-returns-in-Four c = rw (c.in-Four.is, c.solid-s.ensures, c.gross-u.ensures) (divisor-four _ _)

@@ -2,8 +2,8 @@ use Rattle.std.proofs.Common.{refl}
 use Rattle.force.proofs.Bounded.{by-bounds, no-pressure}
 use Rattle.force.proofs.prepared.PreparedFace.force_in.Goals as goal
 
-pub returns-then-factor-eq0 : goal.returns-then-factor-eq0
-returns-then-factor-eq0 c = no-pressure c.args.self c.args.w c.requires c.if-factor-eq0.true
+pub returns-then-factored-eq0 : goal.returns-then-factored-eq0
+returns-then-factored-eq0 c = no-pressure c.args.self c.args.w c.requires c.if-factored-eq0.true
 
 pub returns-in-Ok : goal.returns-in-Ok
 returns-in-Ok c =

@@ -19,7 +19,7 @@ loop-wind-preserved c =
     let n = rw c.face-face.ensures at c.in-Some.ensures in
     let before = greatest-between s l.next w.group n.low (omega (arith, n.high)) n.before l.invariant.1 in
     let more = greatest-more s w.group n.high w.pressure (n.lesser no_group) before c.formula_force-in-Some.ensures in
-    let most : c.max-force.result.0 ≡ greater l.force.0 c.formula_force-in-Some.result.force.0 = ap (λ (x : Force). x.0) c.max-force.ensures ∙ max-is _ _ in
+    let most : c.max-force.result.0 ≡ greater l.force.0 c.formula_force-in-Some.result.value.0 = ap (λ (x : Force). x.0) c.max-force.ensures ∙ max-is _ _ in
     (omega (arith, n.high), rw most more)
 
 pub returns-in_default : goal.returns-in_default
