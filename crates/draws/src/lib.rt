@@ -1,5 +1,5 @@
-// Arguments of calls that look random but never change: files of towers, items, winds and rooms, most of them sound. Each number is drawn from
-// a key and a place alone, so that their order is free.
+// Arguments of calls that look random but never change: files of towers, items, winds and rooms, most of them sound.
+// Each number is drawn from a key and a place alone, so that their order is free.
 #![tactic(auto)]
 
 pub mod arguments;
