@@ -13,6 +13,7 @@ ghost use Rattle.slots.specs.Promises.{Meets};
 ghost use Rattle.tower_calls.specs.Placed.{section_in, head_of, PutItems};
 
 use model::{Item, Refusal, Section, Tower};
+use slots::head::{COUNT, HELD, LEGS, STANDING};
 use slots::items::{ITEMS, item_slot};
 use slots::sections::put_section;
 use slots::{Slot, State};
@@ -41,20 +42,12 @@ fn put_items(s: &mut State, items: &[Item])
 fn head_slot(tower: &Tower) -> Slot
     ensures { result ≡ head_of (tower_of tower.now) }
 {
-    [
-        1,
-        u64::from(tower.legs) as u32,
-        tower.sections.len() as u32,
-        tower.items.len() as u32,
-        0,
-        0,
-        0,
-        0,
-        0,
-        0,
-        0,
-        0,
-    ]
+    let mut head = [0; 12];
+    head[STANDING] = 1;
+    head[LEGS] = u64::from(tower.legs) as u32;
+    head[COUNT] = tower.sections.len() as u32;
+    head[HELD] = tower.items.len() as u32;
+    head
 }
 
 // A tower under no wind in place of everything.
