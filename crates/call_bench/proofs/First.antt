@@ -1,27 +1,33 @@
 -- The item that was hung first.
-use Rattle.std.proofs.Common.{◌≡◌, ℕ, ◌<◌, true, false, List, [], ◌∷◌, map, length, get_or, take, drop, refl, ap, ◌∙◌, arith, length-drop, length-take-le, get_or-drop, get_or-take}
-use Rattle.slots.specs.Held.{Slots, slot, is_standing, held_in, item_of, items_in, state_of}
-use Rattle.slots.proofs.Grounds.{standing-as, fallen, held-few}
+use Rattle.std.proofs.Common.{◌≡◌, ℕ, Bool, true, false, Some, None, List, [], ◌∷◌, map, slice_index_or, take, drop, refl, ap, sym, ◌∙◌}
+use Rattle.std.specs.List.{slice_get}
+use Rattle.slots.specs.Held.{Slots, is_standing, held_in, item_of, state_of}
+use Rattle.slots.proofs.Grounds.{standing-as, fallen}
 use Rattle.call_bench.specs.Repeated.{dish, first_in}
 
-first-mapped : {A B : Type 0} (f : A → B) (l : List A) (a : A) (b : B) → 0 < length l → get_or (map f l) 0 b ≡ f (get_or l 0 a)
-first-mapped f [] a b h = absurd (omega arith)
-first-mapped f (x ∷ l) a b h = refl
+-- where no tower stands
+pub first-fallen : (l : Slots) → is_standing l ≡ false → dish 0 ≡ first_in (state_of l)
+first-fallen l h = sym (ap first_in (fallen l h))
 
-module _ (l : Slots) where
-  pub first-fallen : is_standing l ≡ false → first_in (state_of l) ≡ dish 0
-  first-fallen h = ap first_in (fallen l h)
+-- by the slots of the items
+module _ (l : Slots) (items : List (List ℕ)) (are : items ≡ take (held_in l) (drop 65 l)) where
+  first-standing : is_standing l ≡ true → first_in (state_of l) ≡ slice_index_or (map item_of items) 0 (dish 0)
+  first-standing stands = ap first_in (standing-as l stands) ∙ rw are
 
-  module _ (stands : is_standing l ≡ true) where
-    first-standing : first_in (state_of l) ≡ get_or (items_in l) 0 (dish 0)
-    first-standing = ap first_in (standing-as l stands)
+  pub first-held : is_standing l ≡ true → (x : List ℕ) → Some x ≡ slice_get items 0 → item_of x ≡ first_in (state_of l)
+  first-held stands x e = by-case items e ∙ sym (first-standing stands)
+    where
+      by-case : (xs : List (List ℕ)) → Some x ≡ slice_get xs 0 → item_of x ≡ slice_index_or (map item_of xs) 0 (dish 0)
+      by-case [] h = cc
+      by-case (y ∷ ys) h = cc
 
-    pub first-none : held_in l ≡ 0 → first_in (state_of l) ≡ dish 0
-    first-none h = first-standing ∙ ap (λ (n : ℕ). get_or (map item_of (take n (drop 65 l))) 0 (dish 0)) h
+  pub first-none : None ≡ slice_get items 0 → dish 0 ≡ first_in (state_of l)
+  first-none e = by-case (is_standing l) refl
+    where
+      none : (xs : List (List ℕ)) → None ≡ slice_get xs 0 → slice_index_or (map item_of xs) 0 (dish 0) ≡ dish 0
+      none [] h = refl
+      none (y ∷ ys) h = cc
 
-    pub first-held : length l ≡ 129 → 0 < held_in l → first_in (state_of l) ≡ item_of (slot l 65)
-    first-held long h =
-        first-standing
-        ∙ first-mapped item_of (take (held_in l) (drop 65 l)) [] (dish 0)
-        (omega (arith, held-few l, length-drop 65 l, length-take-le (held_in l) (drop 65 l) (omega (arith, held-few l, length-drop 65 l))))
-        ∙ ap item_of (get_or-take (held_in l) (drop 65 l) 0 [] h ∙ get_or-drop 65 l 0 [])
+      by-case : (b : Bool) → is_standing l ≡ b → dish 0 ≡ first_in (state_of l)
+      by-case true stands = sym (first-standing stands ∙ none items e)
+      by-case false h = first-fallen l h

@@ -1,93 +1,108 @@
--- One call more, one round more, and a report behind a report.
-use Rattle.std.proofs.Common.{◌≡◌, ℕ, zero, suc, ◌+◌, ◌*◌, ◌%◌, ◌^◌, ◌<◌, ◌≤◌, Bool, true, false, cond, eqb, ltb, List, [], ◌∷◌, ◌++◌, length, drop, sym, refl, ap, ◌∙◌, subst, append_assoc, add-one, arith, length-append, length-drop, ltb-false, ne_eqb}
+-- Calls behind calls, rounds behind rounds, and a report behind a report.
+use Rattle.std.proofs.Common.{◌≡◌, ℕ, zero, suc, ◌+◌, ◌*◌, ◌%◌, ◌^◌, ◌≤◌, Bool, true, false, cond, eqb, ltb, List, [], ◌∷◌, ◌++◌, length, drop, sym, refl, ap, ◌∙◌, subst, add-one, arith, length-append, length-drop, ltb-false, ne_eqb}
+use denote.Ref.{MutBor}
 use mathlib.Core.Option.{none, some}
-use native.Mathlib.Nat.{mod-add-mod}
+use Rattle.std.specs.Fn.{Shared}
+use native.Mathlib.Nat.{mod-add-mod, add-mod-mod}
 use lib.Seq.{drop-append_seam}
-use Rattle.model.specs.declared.Answer.{Answer}
-use Rattle.model.specs.declared.Answer.TheVariants as answer
+use Rattle.std.proofs.lemmas.Bool.Decides.{nat_tests}
+use Rattle.std.specs.Prelude.{Result, ⊤}
 use Rattle.model.specs.declared.Refusal.{Refusal}
-use Rattle.model.specs.Answers.{Reply, refusal_number, answer_reply, answer_number}
+use Rattle.model.specs.Answers.{Reply, answer_reply, answer_number}
 use Rattle.model.specs.Tower.{Tower, Wind}
 use Rattle.model.specs.Report.{rows_of}
 use Rattle.model.specs.Machine.{State, no_tower, standing, filled, refuse_if, report_refusal, rows_in}
 use Rattle.model.specs.Calls.{Call, erect, wind, report, refusal_of, step, lent_after, run}
 use Rattle.model.proofs.Refused.{same-state}
-use Rattle.model.proofs.Says.{refusal-positive}
 use Rattle.model.proofs.Rows.{length-rows}
 use Rattle.slots.specs.Held.{Slots, is_standing, state_of, empty_slots}
 use Rattle.slots.specs.Promises.{Meets}
-use Rattle.call_bench.specs.Repeated.{windy, once, accepted_in, in_rounds, report_round, in_turn, Counted, Reported}
+use Rattle.call_bench.specs.Repeated.{windy, once, accepted_in, in_rounds, report_round, in_turn, After, rounds_to, MakesRounds, Repeats, Counted, Reported}
 
 -- erect and wind, from fresh
 fresh-none : state_of empty_slots ≡ no_tower
 unfolding state_of is_standing
 fresh-none = refl
 
-pub windy-known : (file : List ℕ) (w : Wind) {f s t : Slots} {a b : Reply} {k l : List ℕ} → f ≡ empty_slots → Meets (erect file) f s a k
+pub windy-known : (file : List ℕ) (w : Wind) {s t : Slots} {a b : Reply} {k l : List ℕ} → Meets (erect file) empty_slots s a k
     → Meets (wind w) s t b l → state_of t ≡ windy file w
 unfolding windy
-windy-known file w p q r =
-    r.state ∙ ap (λ (m : State). step m (wind w)) (q.state ∙ ap (λ (m : State). step m (erect file)) (ap state_of p ∙ fresh-none))
-
--- a call that is turned down is not counted
-pub not-counted : {e : Refusal} (n : ℕ) (a : Answer) → n < 2 ^ 64 → a ≡ answer.Refused e → n ≡ (n + once (answer_number a)) % 2 ^ 64
-not-counted {e} n a h k =
-    let p : _ = refusal-positive e in
-    rw (k, ne_eqb (refusal_number e) 0 (λ (z : refusal_number e ≡ 0). omega arith)) (omega arith)
+windy-known file w q r = r.state ∙ ap (λ (m : State). step m (wind w)) (q.state ∙ ap (λ (m : State). step m (erect file)) fresh-none)
 
 -- one list behind another
 run-append : (m : State) (cs ds : List Call) → run m (cs ++ ds) ≡ run (run m cs) ds
 run-append m [] ds = refl
 run-append m (c ∷ cs) ds = run-append (step m c) cs ds
 
-accepted-more : (m : State) (cs : List Call) (c : Call) → accepted_in m (cs ++ (c ∷ [])) ≡ accepted_in m cs + once (refusal_of (run m cs) c)
+accepted-append : (m : State) (cs ds : List Call) → accepted_in m (cs ++ ds) ≡ accepted_in m cs + accepted_in (run m cs) ds
 unfolding accepted_in
-accepted-more m [] c = omega arith
-accepted-more m (d ∷ cs) c = omega (arith, accepted-more (step m d) cs c)
+accepted-append m [] ds = omega arith
+accepted-append m (c ∷ cs) ds = omega (arith, accepted-append (step m c) cs ds)
 
--- the state and the count after some calls
-pub record After (m : State) (cs : List Call) (s : Slots) (n : ℕ) : Type 0 where
-  pub state : state_of s ≡ run m cs
-  pub count : Counted m cs n
+once-small : (n : ℕ) → once n ≤ 1
+once-small n = grind (arith, nat_tests)
+
+counted-one : (m : State) (c : Call) {n : ℕ} → n ≡ once (refusal_of m c) → Counted m (c ∷ []) n
+unfolding accepted_in
+counted-one m c e = omega (arith, e, once-small (refusal_of m c))
+
+-- a call and its answer
+pub after_one : (c : Call) {s t : Slots} {r : Reply} {lent : List ℕ} {n : ℕ} → Meets c s t r lent → n ≡ once r.number → After (state_of s) (c ∷ []) t n
+after_one c {s} h e = record { state = h.state; count = counted-one (state_of s) c (e ∙ ap (λ (x : Reply). once x.number) h.reply) }
+
+-- a call behind a call
+pub after_two : (c d : Call) {s t u : Slots} {a b : Reply} {k l : List ℕ} {n p : ℕ} → Meets c s t a k → n ≡ once a.number
+    → Meets d t u b l → p ≡ once b.number → After (state_of s) (c ∷ d ∷ []) u (n + p)
+unfolding accepted_in
+after_two c d {s} {t} {n = n} {p = p} g e h f =
+    let first : n ≡ once (refusal_of (state_of s) c) = e ∙ ap (λ (x : Reply). once x.number) g.reply in
+    let second : p ≡ once (refusal_of (step (state_of s) c) d) =
+    f ∙ ap (λ (x : Reply). once x.number) h.reply ∙ ap (λ (m : State). once (refusal_of m d)) g.state in
+    record {
+      state = h.state ∙ ap (λ (m : State). step m d) g.state;
+      count = omega (arith, first, second, once-small (refusal_of (state_of s) c), once-small (refusal_of (step (state_of s) c) d));
+    }
 
 module _ (m : State) where
-  counted-more : (cs : List Call) (c : Call) (n r : ℕ) {k : ℕ} → Counted m cs n → k ≡ refusal_of (run m cs) c → r ≡ (n + once k) % 2 ^ 64
-      → Counted m (cs ++ (c ∷ [])) r
-  counted-more cs c n r p e q = rw (q, p, e, accepted-more, mod-add-mod)
+  counted-more : (cs ds : List Call) {n k r : ℕ} → Counted m cs n → Counted (run m cs) ds k → r ≡ (n + k) % 2 ^ 64 → Counted m (cs ++ ds) r
+  counted-more cs ds p q e = rw (e, p, q, accepted-append, mod-add-mod, add-mod-mod)
 
-  pub after_more : (cs : List Call) (c : Call) {s t : Slots} (a : Answer) {n r : ℕ} {lent : List ℕ} → After m cs s n
-      → Meets c s t (answer_reply a) lent → r ≡ (n + once (answer_number a)) % 2 ^ 64 → After m (cs ++ (c ∷ [])) t r
-  after_more cs c a {n} {r} p h e =
+  after_more : (cs ds : List Call) {s t : Slots} {n k r : ℕ} → After m cs s n → After (state_of s) ds t k → r ≡ (n + k) % 2 ^ 64 → After m (cs ++ ds) t r
+  after_more cs ds {k = k} p q e =
       record {
-        state = h.state ∙ ap (λ (x : State). step x c) p.state ∙ sym (run-append m cs (c ∷ []));
-        count =
-            counted-more cs c n r p.count (ap (λ (x : Reply). x.number) h.reply ∙ ap (λ (x : State). refusal_of x c) p.state) e;
+        state = q.state ∙ ap (λ (x : State). run x ds) p.state ∙ sym (run-append m cs ds);
+        count = counted-more cs ds p.count (subst (λ (x : State). Counted x ds k) p.state q.count) e;
       }
 
-  pub after_two : (cs : List Call) (c d : Call) {s t u : Slots} (a b : Answer) {n p r : ℕ} {k l : List ℕ} → After m cs s n
-      → Meets c s t (answer_reply a) k → p ≡ (n + once (answer_number a)) % 2 ^ 64
-      → Meets d t u (answer_reply b) l → r ≡ (p + once (answer_number b)) % 2 ^ 64 → After m (cs ++ (c ∷ d ∷ [])) u r
-  after_two cs c d a b h p e q f = rw append_assoc at (after_more (cs ++ (c ∷ [])) d b (after_more cs c a h p e) q f)
+  -- rounds
+  module _ (round : State → ℕ → List Call) where
+    pub no-round : {s : Slots} → state_of s ≡ m → After m (rounds_to round m 0) s 0
+    unfolding accepted_in rounds_to
+    no-round e = record { state = e; count = refl }
 
-  module _ (round : ℕ → List Call) where
-    pub no-round : (s : Slots) → state_of s ≡ m → After m (in_rounds round 0) s 0
-    unfolding accepted_in in_rounds
-    no-round s e = record { state = e; count = refl }
+    pub round-more : (i : ℕ) {s t : Slots} {n k r : ℕ} → After m (rounds_to round m i) s n → After (state_of s) (round (state_of s) i) t k
+        → r ≡ (n + k) % 2 ^ 64 → After m (rounds_to round m (i + 1)) t r
+    unfolding rounds_to
+    round-more i {t = t} {r = r} p q e =
+        rw add-one (subst (λ (x : State). After m (rounds_to round m i ++ round x i) t r) p.state (after_more (rounds_to round m i) _ p q e))
 
-    pub round-more : (i : ℕ) {s : Slots} {n : ℕ} → After m (in_rounds round i ++ round i) s n → After m (in_rounds round (i + 1)) s n
-    unfolding in_rounds
-    round-more i a = rw add-one a
+-- rounds whose calls the number alone tells, or the state alone
+pub rounds-numbered : (m : State) (round : ℕ → List Call) (n : ℕ) → rounds_to (λ _ i. round i) m n ≡ in_rounds round n
+unfolding rounds_to in_rounds
+rounds-numbered m round zero = refl
+rounds-numbered m round (suc n) = ap (λ (cs : List Call). cs ++ round n) (rounds-numbered m round n)
 
-  -- rounds whose calls the state tells
-  module _ (round : State → List Call) where
-    pub no-turn : (s : Slots) → state_of s ≡ m → After m (in_turn round m 0) s 0
-    unfolding accepted_in in_turn
-    no-turn s e = record { state = e; count = refl }
+pub rounds-told : (m : State) (round : State → List Call) (n : ℕ) → rounds_to (λ x _. round x) m n ≡ in_turn round m n
+unfolding rounds_to in_turn
+rounds-told m round zero = refl
+rounds-told m round (suc n) = ap (λ (cs : List Call). cs ++ round (run m cs)) (rounds-told m round n)
 
-    pub turn_more : (i : ℕ) {s t : Slots} {n k : ℕ} → After m (in_turn round m i) s n → After m (in_turn round m i ++ round (state_of s)) t k
-        → After m (in_turn round m (i + 1)) t k
-    unfolding in_turn
-    turn_more i {t = t} {k = k} a b = rw add-one (subst (λ (x : State). After m (in_turn round m i ++ round x) t k) a.state b)
+module _ {F : Type 0} {g : Shared F (MutBor Slots × (ℕ × Unit {0})) (ℕ × (MutBor Slots × Unit {0}))} {f : F} (m : State) {rounds r : ℕ} (h : Repeats g f m rounds r) where
+  pub repeats-numbered : (round : ℕ → List Call) → MakesRounds g f rounds (λ _ i. round i) → Counted m (in_rounds round rounds) r
+  repeats-numbered round k = rw (← rounds-numbered m round rounds) (h (λ _ i. round i) k)
+
+  pub repeats-told : (round : State → List Call) → MakesRounds g f rounds (λ x _. round x) → Counted m (in_turn round m rounds) r
+  repeats-told round k = rw (← rounds-told m round rounds) (h (λ x _. round x) k)
 
 -- a report into what a report left
 filled-again : (n : ℕ) (given lent : List ℕ) → filled n given (filled n given lent) ≡ filled n given lent
@@ -143,7 +158,7 @@ module _ (m : State) (before : List ℕ) where
       ∙ ap (λ (x : State). step x (report before)) (run-reports n)
       ∙ same-state m (report before) refl
 
-  pub reported-more : (i : ℕ) {lent after : List ℕ} (s : Slots) (a : Answer) {n r : ℕ} → state_of s ≡ m → Reported m i before lent n
+  pub reported-more : (i : ℕ) {lent after : List ℕ} (s : Slots) (a : Result ⊤ Refusal) {n r : ℕ} → state_of s ≡ m → Reported m i before lent n
       → Meets (report lent) s s (answer_reply a) after → r ≡ (n + once (answer_number a)) % 2 ^ 64 → Reported m (i + 1) before after r
   unfolding in_rounds
   reported-more i {lent} s a {n} {r} known p h e =
@@ -152,7 +167,7 @@ module _ (m : State) (before : List ℕ) where
       ap (λ (x : Reply). x.number) h.reply ∙ ap (λ (x : State). report_refusal x (length lent)) known ∙ ap (report_refusal m) so.0
       ∙ sym (ap (λ (x : State). report_refusal x (length before)) (run-reports i)) in
       record {
-        answer = rw add-one (counted-more m (in_rounds (report_round before) i) (report before) n r p.answer refusal e);
+        answer = rw add-one (counted-more m (in_rounds (report_round before) i) (report before ∷ []) p.answer (counted-one (run m (in_rounds (report_round before) i)) (report before) (ap once refusal)) e);
         rows =
             rw (ne_eqb (i + 1) 0 (λ (z : i + 1 ≡ 0). omega arith)) (h.lent ∙ ap (λ (x : State). lent_after x (report lent)) known ∙ so.1);
       }

@@ -2,37 +2,37 @@
 // sets the wind before it repeats a call, and answers how many of the repeated calls are accepted, modulo 2^64.
 #![tactic(auto)]
 
-ghost use Rattle.std.specs.Prelude.{◌≡◌, ◌+◌, ◌%◌, ◌^◌};
+ghost use Rattle.std.specs.Prelude.{◌≡◌, ◌+◌, ◌%◌, ◌^◌, ◌≤◌};
 ghost use Rattle.model.specs.Answers.{answer_number};
+ghost use Rattle.model.specs.Tower.{wind_of};
 ghost use Rattle.slots.specs.Held.{state_of};
 ghost use Rattle.slots.specs.Promises.{wind_asked};
-ghost use Rattle.call_bench.specs.Repeated.{windy, once, dish, first_in, Reported, Hung, Erected, FirstDown};
+ghost use Rattle.call_bench.specs.Repeated.{windy, once, dish, first_in, After, Repeats, hang_round, first_round, erect_round, Reported, Hung, Erected, FirstDown};
 
-use model::{Answer, Item};
+use model::{Item, Refusal, Wind};
 use service::answers::report;
-use service::changes::{erect, fresh, hang, set_wind, take_down};
-use slots::head::{held_in, is_standing};
-use slots::items::item_at;
+use service::changes::{erect, hang, set_wind, take_down};
+use slots::head::is_standing;
+use slots::items::{item_of, item_slots};
 use slots::{EMPTY, State};
 use units::Length;
 
-// A call that is turned down leaves the state, so that all after it may be turned down too.
-fn windy(s: &mut State, file: &[u8], direction: u32, ice: u32, factor: u32, pressures: &[u16])
-    ensures { state_of s.new ≡ windy file.now (wind_asked direction ice factor pressures.now) }
+// A fresh service with the tower of the file in the wind. A call that is turned down leaves the state, so that all
+// after it may be turned down too.
+fn windy(file: &[u8], wind: Wind) -> State
+    ensures { state_of result ≡ windy file.now (wind_of wind.entry) }
 {
-    fresh(s);
-    erect(s, file);
-    set_wind(s, direction, ice, factor, pressures);
+    let mut state = EMPTY;
+    let _ = erect(&mut state, file);
+    let _ = set_wind(&mut state, wind);
+    state
 }
 
-// One more where the call is accepted.
-fn counted(n: u64, a: Answer) -> u64
-    ensures { result ≡ (n + once (answer_number a)) % 2 ^ 64 }
+// 1 where the call is accepted.
+fn once(answer: Result<(), Refusal>) -> u64
+    ensures { (result ≡ once (answer_number answer)) × (result ≤ 1) }
 {
-    match a {
-        Answer::Accepted => std::num::wrapping_add_u64(n, 1),
-        Answer::Refused(_) => n,
-    }
+    u64::from(answer.is_ok())
 }
 
 // A dish on the topmost section.
@@ -54,24 +54,50 @@ fn dish(number: u16) -> Item
 fn first_of(s: &State) -> Item
     ensures { result ≡ first_in (state_of s.now) }
 {
-    if !is_standing(s) {
-        return dish(0);
+    match item_slots(s).first() {
+        Some(slot) if is_standing(s) => item_of(slot),
+        _ => dish(0),
     }
-    if held_in(s) == 0 {
-        return dish(0);
+}
+
+// So many rounds in the wind: how many of their calls are accepted. Each is given its number and answers how many of
+// its own are.
+fn repeated<F: Fn(&mut State, u64) -> u64>(file: &[u8], wind: Wind, rounds: u64, round: F) -> u64
+    requires { F.IsAlwaysCallable round }
+    ensures { Repeats F.Fn round (windy file.now (wind_of wind.entry)) rounds result }
+{
+    let mut state = windy(file, wind);
+    let mut accepted: u64 = 0;
+    for i in 0..rounds {
+        accepted = accepted.wrapping_add(round(&mut state, i));
     }
-    item_at(s, 0)
+    accepted
+}
+
+// Hangs a dish and takes it down again. Its number is the round's modulo 1000.
+fn hang_round(state: &mut State, round: u64) -> u64
+    ensures { After (state_of state.old) (hang_round round) state.new result }
+{
+    let number = (round % 1000) as u16;
+    once(hang(state, dish(number))) + once(take_down(state, number))
+}
+
+// Takes down the item that was hung first and hangs it again.
+fn first_round(state: &mut State, _round: u64) -> u64
+    ensures { After (state_of state.old) (first_round (state_of state.old)) state.new result }
+{
+    let first = first_of(state);
+    once(take_down(state, first.number)) + once(hang(state, first))
 }
 
 // The state as it is, in another place.
 fn keep(s: &State, kept: &mut State)
     ensures { kept.new ≡ s.now }
 {
-    let x = *s;
-    *kept = x;
+    *kept = *s;
 }
 
-// Reports into out so many times.
+// Reports into out so many times, in a loop of its own since the contract tells what is left in out.
 #[unsafe(no_mangle)]
 pub extern "C" fn report_bench(
     file: &[u8],
@@ -84,16 +110,21 @@ pub extern "C" fn report_bench(
 ) -> u64
     ensures { Reported (windy file.now (wind_asked direction ice factor pressures.now)) rounds out.old out.new result }
 {
-    let mut state = EMPTY;
-    windy(&mut state, file, direction, ice, factor, pressures);
+    let wind = Wind {
+        direction,
+        ice,
+        factor,
+        pressures,
+    };
+    let state = windy(file, wind);
     let mut accepted: u64 = 0;
-    for _ in 0u64..rounds {
-        accepted = counted(accepted, report(&state, out));
+    for _ in 0..rounds {
+        accepted = accepted.wrapping_add(once(report(&state, out)));
     }
     accepted
 }
 
-// Hangs a dish and takes it down again, so many times. Its number is the round's modulo 1000.
+// Hangs a dish and takes it down again, so many times.
 #[unsafe(no_mangle)]
 pub extern "C" fn hang_bench(
     file: &[u8],
@@ -105,15 +136,13 @@ pub extern "C" fn hang_bench(
 ) -> u64
     ensures { Hung (windy file.now (wind_asked direction ice factor pressures.now)) rounds result }
 {
-    let mut state = EMPTY;
-    windy(&mut state, file, direction, ice, factor, pressures);
-    let mut accepted: u64 = 0;
-    for i in 0u64..rounds {
-        let number = (i % 1000) as u16;
-        accepted = counted(accepted, hang(&mut state, dish(number)));
-        accepted = counted(accepted, take_down(&mut state, number));
-    }
-    accepted
+    let wind = Wind {
+        direction,
+        ice,
+        factor,
+        pressures,
+    };
+    repeated(file, wind, rounds, hang_round)
 }
 
 // Takes down the item that was hung first and hangs it again, so many times.
@@ -128,15 +157,13 @@ pub extern "C" fn first_down_bench(
 ) -> u64
     ensures { FirstDown (windy file.now (wind_asked direction ice factor pressures.now)) rounds result }
 {
-    let mut state = EMPTY;
-    windy(&mut state, file, direction, ice, factor, pressures);
-    let mut accepted: u64 = 0;
-    for _ in 0u64..rounds {
-        let first = first_of(&state);
-        accepted = counted(accepted, take_down(&mut state, first.number));
-        accepted = counted(accepted, hang(&mut state, first));
-    }
-    accepted
+    let wind = Wind {
+        direction,
+        ice,
+        factor,
+        pressures,
+    };
+    repeated(file, wind, rounds, first_round)
 }
 
 // Erects the file so many times more.
@@ -151,13 +178,20 @@ pub extern "C" fn erect_bench(
 ) -> u64
     ensures { Erected (windy file.now (wind_asked direction ice factor pressures.now)) file.now rounds result }
 {
-    let mut state = EMPTY;
-    windy(&mut state, file, direction, ice, factor, pressures);
-    let mut accepted: u64 = 0;
-    for _ in 0u64..rounds {
-        accepted = counted(accepted, erect(&mut state, file));
-    }
-    accepted
+    let wind = Wind {
+        direction,
+        ice,
+        factor,
+        pressures,
+    };
+    repeated(
+        file,
+        wind,
+        rounds,
+        |state: &mut State, round: u64| -> u64
+            ensures { After (state_of state.old) (erect_round file.entry.now round) state.new result }
+        { once(erect(state, file)) },
+    )
 }
 
 // Copies the state so many times, and reports once from the last copy.
@@ -173,11 +207,16 @@ pub extern "C" fn keep_bench(
 ) -> u64
     ensures { Reported (windy file.now (wind_asked direction ice factor pressures.now)) 1 out.old out.new result }
 {
-    let mut state = EMPTY;
-    windy(&mut state, file, direction, ice, factor, pressures);
+    let wind = Wind {
+        direction,
+        ice,
+        factor,
+        pressures,
+    };
+    let state = windy(file, wind);
     let mut kept = state;
-    for _ in 0u64..rounds {
+    for _ in 0..rounds {
         keep(&state, &mut kept);
     }
-    counted(0, report(&kept, out))
+    once(report(&kept, out))
 }

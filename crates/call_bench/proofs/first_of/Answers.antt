@@ -1,18 +1,16 @@
-use Rattle.std.proofs.Common.{sym, ◌∙◌, arith, rules}
+use Rattle.std.proofs.Common.{sym, ◌∙◌}
 use Rattle.call_bench.proofs.First.{first-fallen, first-none, first-held}
 use Rattle.call_bench.proofs.first_of.Goals as goal
+use Rattle.call_bench.proofs.first_of.Goals.{in_default-via-in-Some+else-is_standing, in_default-via-in_default}
 
-pub returns-then-not-is_standing : goal.returns-then-not-is_standing
-returns-then-not-is_standing c = c.dish.ensures ∙ sym (first-fallen _ (sym c.is_standing.ensures ∙ c.if-not-is_standing.true))
+pub returns-in-Some : goal.returns-in-Some
+returns-in-Some c =
+    c.item_of.ensures.0 ∙ first-held _ _ c.item_slots.ensures.slots (sym c.is_standing.ensures ∙ c.if-is_standing.true) _ c.in-Some.ensures.value
 
-pub returns-then-held_in-eq0 : goal.returns-then-held_in-eq0
-returns-then-held_in-eq0 c =
-    c.dish-then-held_in-eq0.ensures
-    ∙ sym (first-none _ (sym c.is_standing.ensures ∙ c.if-not-is_standing.false) (omega (arith, c.held_in.ensures.0, c.if-held_in-eq0.true)))
-
-pub returns : goal.returns
-returns c =
-    c.item_at.ensures.0
-    ∙ sym
-    (first-held _ (sym c.is_standing.ensures ∙ c.if-not-is_standing.false) (search rules)
-    (omega (arith, c.held_in.ensures.0, c.if-held_in-eq0.false)))
+pub returns-in_default : goal.returns-in_default
+returns-in_default c =
+    c.dish.ensures
+    ∙ elim c.in_default.branch [
+      | in_default-via-in-Some+else-is_standing w ↦ first-fallen _ (sym w.is_standing.ensures ∙ w.if-is_standing.false)
+      | in_default-via-in_default w ↦ first-none _ _ c.item_slots.ensures.slots w.in_default.ensures.value
+    ]

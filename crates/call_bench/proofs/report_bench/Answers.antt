@@ -1,3 +1,4 @@
+use Rattle.std.proofs.Common.{refl}
 use Rattle.call_bench.proofs.Repeating.{reported-none, reported-more}
 use Rattle.call_bench.proofs.report_bench.Goals as goal
 
@@ -6,4 +7,4 @@ loop-init c = reported-none _ _
 
 pub loop-preserved : goal.loop-preserved
 loop-preserved c =
-    reported-more _ _ c.loop.counter _ c.report.result c.windy.ensures c.loop.invariant c.report.ensures c.counted-accepted.ensures
+    reported-more _ _ c.loop.counter _ c.report.result c.windy-state.ensures c.loop.invariant c.report.ensures (rw c.once-accepted.ensures.0 refl)
