@@ -33,7 +33,10 @@ impl<'a> Text<'a> {
     pub fn push(&mut self, b: u8)
         ensures { Appends (b ∷ []) self.old self.new }
     {
-        self.push_all(&[b]);
+        if self.len < self.out.len() {
+            self.out[self.len] = b;
+            self.len += 1;
+        }
     }
 
     pub fn push_all(&mut self, bytes: &[u8])
