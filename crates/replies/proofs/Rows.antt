@@ -1,9 +1,7 @@
--- A row that is put number by number, and rows one after the other; the rows alone count, whatever follows them; a row
--- reads back.
-use Rattle.std.proofs.Common.{◌≡◌, ℕ, zero, suc, ◌+◌, ◌-◌, ◌*◌, ◌/◌, ◌^◌, ◌≤◌, ◌<◌, List, [], ◌∷◌, ◌++◌, length, get_or, take, drop, refl, append_assoc, append-nil, arith, length-append, length-drop}
+-- A row that is put number by number, and rows one after the other; a row reads back.
+use Rattle.std.proofs.Common.{◌≡◌, ℕ, suc, ◌+◌, ◌-◌, ◌/◌, ◌^◌, ◌<◌, List, [], ◌∷◌, ◌++◌, length, get_or, take, refl, append_assoc, append-nil, arith, length-append}
 use Rattle.std.specs.Prelude.{decimal}
-use Rattle.std.proofs.lemmas.List.{take_more, take-append-le, take_at, drop_at}
-use Rattle.std.proofs.Math.Seq.{drop-append-le}
+use Rattle.std.proofs.lemmas.List.{take_more, take_at, drop_at}
 use Rattle.lines.specs.declared.text.Text.{Text}
 use Rattle.lines.specs.Text.{spaced}
 use Rattle.lines.specs.Appends.{Appends}
@@ -63,15 +61,6 @@ unfolding rows_text
 all_rows {rest = rest} p h =
     let z : length rest / 6 ≡ 0 = omega arith in
     rw (p.left, z, append-nil) p.put
-
--- numbers behind those of the rows
-pub rows-first : (n : ℕ) (rows more : List ℕ) → 6 * n ≤ length rows → rows_text n (rows ++ more) ≡ rows_text n rows
-unfolding rows_text
-rows-first zero rows more h = refl
-rows-first (suc n) rows more h =
-    let six : 6 ≤ length rows = omega arith in
-    let left : 6 * n ≤ length (drop 6 rows) = omega (arith, length-drop 6 rows) in
-    rw (take-append-le 6 rows more six, drop-append-le 6 rows more six, rows-first n (drop 6 rows) more left)
 
 -- a row, without its line end, reads back
 pub row_back : (room : ℕ) (ns : List ℕ) (n : ℕ) → ((i : ℕ) → get_or ns i 0 < 10 ^ 19) → n < 10 ^ 19 → length ns < room
