@@ -1,5 +1,3 @@
-pub mod Typed
-pub mod Asking
 pub mod Stepping
 pub mod Answering
 pub mod Sessions

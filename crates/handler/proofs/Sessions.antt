@@ -1,36 +1,23 @@
--- Lists of lines, answered one after the other. A link is the contract of `respond`: `Post` of the module `Reads` that the check makes of it.
-use Prim.Native.Nat.{ℕ, ◌≤◌}
-use mathlib.Core.Path.{◌≡◌, ap, subst, ◌∙◌}
-use mathlib.Core.List.{List, [], ◌∷◌}
-use native.Mathlib.Omega.{arith}
-use lib.ListN.{length, take}
+-- Lists of lines, answered one after the other. A link is the contract of `respond`: `Post` of the module `Reads` that
+-- the check makes of it.
+use Rattle.std.proofs.Common.{◌≡◌, ℕ, ◌≤◌, ap, subst, ◌∙◌, List, [], ◌∷◌, arith, length, take, Bor, MutBor}
 use contract.Lifetimes.{Lfts}
-use denote.MutBor.{MutBor}
-use denote.Ref.{Bor}
 use Rattle.model.specs.Machine.{State, no_tower}
 use Rattle.lines.specs.Text.{Puts}
 use Rattle.slots.specs.Held.{Slots, state_of}
 use Rattle.service.proofs.Links.{IsFresh, fresh-state}
 use Rattle.requests.specs.Asked.{Asked, Room, asked_in}
-use Rattle.requests.specs.Decoded.{room_of}
+use Rattle.handler.specs.declared.Buffers.{Buffers}
 use Rattle.handler.specs.AnswerText.{answer_text}
 use Rattle.handler.specs.RequestSteps.{after}
-use Rattle.handler.specs.Responds.{Responds}
+use Rattle.handler.specs.Responds.{room_in, Responds}
 use Rattle.handler.specs.Sessions.{Exchange, after_all, Answers, none, more}
 use Rattle.handler.proofs.respond.respond.Reads as respond-reads
 
 -- the slices have these lengths at each line
-pub record Lent (room : Room) (most : ℕ) (ns rs bs ts : List ℕ) : Type 0 where
-  pub numbers : length ns ≡ room.numbers
-  pub rows : length rs ≡ room.rows
-  pub file : length bs ≡ room.file
-  pub out : length ts ≡ most
-
-room-is : {room : Room} {most : ℕ} {ns rs bs ts : List ℕ} → Lent room most ns rs bs ts → room_of (length ns) (length rs) (length bs) ≡ room
-room-is {room} {ns = ns} {rs = rs} {bs = bs} l =
-    ap (λ (n : ℕ). room_of n (length rs) (length bs)) l.numbers
-    ∙ ap (λ (n : ℕ). room_of room.numbers n (length bs)) l.rows
-    ∙ ap (λ (n : ℕ). room_of room.numbers room.rows n) l.file
+pub record Lent (room : Room) (most : ℕ) (b : Buffers) : Type 0 where
+  pub room_is : room_in b ≡ room
+  pub out : length b.out.now ≡ most
 
 -- the text that was put at the start of a slice
 put_whole : {text before out : List ℕ} {r most : ℕ} → Puts text before 0 out r → length before ≡ most → length text ≤ most → take r out ≡ text
@@ -39,18 +26,16 @@ put_whole p e h = (p.put (omega (arith, e))).1
 -- each line is answered in the state that the last one left
 pub data Session (room : Room) (most : ℕ) : Slots → List Exchange → Slots → Type 0 where
   ended : {s : Slots} → Session room most s [] s
-  answered : (κ : Lfts 6) (s next : MutBor Slots) {s' : Slots} (line : Bor (List ℕ)) (numbers rows file out numbers₁ rows₁ file₁ out₁ : MutBor (List ℕ))
-      {n : ℕ} {es : List Exchange} → Lent room most numbers.now rows.now file.now out.now
-      → respond-reads.Post κ (s, (line, (numbers, (rows, (file, (out, tt)))))) n (next, (line, (numbers₁, (rows₁, (file₁, (out₁, tt))))))
-      → Session room most next.now es s' → Session room most s.now (record { line = line.now; text = take n out₁.now } ∷ es) s'
+  answered : (κ : Lfts 4) (s next : MutBor Slots) {s' : Slots} (line : Bor (List ℕ)) (buffers used : MutBor Buffers) {n : ℕ} {es : List Exchange}
+      → Lent room most buffers.now → respond-reads.Post κ (s, (line, (buffers, tt))) n (next, (line, (used, tt)))
+      → Session room most next.now es s' → Session room most s.now (record { line = line.now; text = take n used.now.out.now } ∷ es) s'
 
 -- in a line's link, what stands for the sizes of the slices is the room
-link-responds : (κ : Lfts 6) {room : Room} {most : ℕ} (s next : MutBor Slots) (line : Bor (List ℕ))
-    (numbers rows file out numbers₁ rows₁ file₁ out₁ : MutBor (List ℕ)) {n : ℕ} → Lent room most numbers.now rows.now file.now out.now
-    → respond-reads.Post κ (s, (line, (numbers, (rows, (file, (out, tt)))))) n (next, (line, (numbers₁, (rows₁, (file₁, (out₁, tt))))))
-    → Responds (asked_in room line.now) s.now next.now out.now out₁.now n
-link-responds κ s next line numbers rows file out numbers₁ rows₁ file₁ out₁ {n} l p =
-    subst (λ (x : Room). Responds (asked_in x line.now) s.now next.now out.now out₁.now n) (room-is l) p
+link-responds : (κ : Lfts 4) {room : Room} {most : ℕ} (s next : MutBor Slots) (line : Bor (List ℕ)) (buffers used : MutBor Buffers) {n : ℕ}
+    → Lent room most buffers.now → respond-reads.Post κ (s, (line, (buffers, tt))) n (next, (line, (used, tt)))
+    → Responds (asked_in room line.now) s.now next.now buffers.now.out.now used.now.out.now n
+link-responds κ s next line buffers used {n} l p =
+    subst (λ (x : Room). Responds (asked_in x line.now) s.now next.now buffers.now.out.now used.now.out.now n) l.room_is p.0
 
 -- a line's step and its answer, in a machine's state that the slots are known to stand for
 module _ {a : Asked} {old new : Slots} {before out : List ℕ} {n : ℕ} (d : Responds a old new before out n) {m : State} (e : state_of old ≡ m) where
@@ -65,15 +50,15 @@ module _ {room : Room} {most : ℕ} where
   pub session-state : {s s' : Slots} {es : List Exchange} (m : State) → state_of s ≡ m → Session room most s es s' → state_of s' ≡ after_all room m es
   unfolding after_all
   session-state m e ended = e
-  session-state m e (answered κ s next line numbers rows file out numbers₁ rows₁ file₁ out₁ l p more-lines) =
-      let d : _ = link-responds κ s next line numbers rows file out numbers₁ rows₁ file₁ out₁ l p in
+  session-state m e (answered κ s next line buffers used l p more-lines) =
+      let d : _ = link-responds κ s next line buffers used l p in
       session-state (after m (asked_in room line.now)) (next-is d e) more-lines
 
   -- and each answer is the machine's
   pub session-answers : {s s' : Slots} {es : List Exchange} (m : State) → state_of s ≡ m → Session room most s es s' → Answers room most m es
   session-answers m e ended = none
-  session-answers m e (answered κ s next line numbers rows file out numbers₁ rows₁ file₁ out₁ l p more-lines) =
-      let d : _ = link-responds κ s next line numbers rows file out numbers₁ rows₁ file₁ out₁ l p in
+  session-answers m e (answered κ s next line buffers used l p more-lines) =
+      let d : _ = link-responds κ s next line buffers used l p in
       more (put_whole (text-is d e) l.out) (session-answers (after m (asked_in room line.now)) (next-is d e) more-lines)
 
   -- from a fresh service on

@@ -1,5 +1,5 @@
 -- What is printed for a line: a function of the machine's state and of what the line asks for.
-use Rattle.std.specs.Prelude.{ℕ, cond, List, [], ◌∷◌, eqb, length}
+use Rattle.std.specs.Prelude.{ℕ, ◌==◌, if◌then◌else◌, List, [], ◌∷◌, length}
 use Rattle.model.specs.Machine.{State, no_tower, standing, report_refusal, rows_in, over_in, write_refusal, file_in}
 use Rattle.model.specs.Calls.{Call, erect, hang, take_down, wind, report, check, write, refusal_of}
 use Rattle.replies.specs.Help.{help_text}
@@ -23,7 +23,8 @@ abbrev pub over_text : List ℕ → List ℕ
 over_text [] = none_text
 over_text (i ∷ more) = count_text i
 
--- check names a section; a report or a write is `reported` or `written`, and as a call it would be answered as the others are
+-- check names a section; a report or a write is `reported` or `written`, and as a call it would be answered as the
+-- others are
 abbrev pub called_text : State → Call → List ℕ
 called_text m (erect file) = done_text
 called_text m (hang it) = done_text
@@ -42,4 +43,4 @@ accepted_text m helped = help_text
 accepted_text m (wrong f) = error_text (fault_text f)
 
 unfoldable pub answer_text : State → Asked → List ℕ
-answer_text m a = cond (eqb (refusal_to m a) 0) (accepted_text m a) (refused_text (refusal_to m a))
+answer_text m a = if refusal_to m a == 0 then accepted_text m a else refused_text (refusal_to m a)

@@ -1,4 +1,5 @@
 pub mod AnswerText
 pub mod RequestSteps
+pub mod Arguments
 pub mod Responds
 pub mod Sessions

@@ -1,95 +1,96 @@
-// A call's arguments, taken from numbers that fit their types.
-ghost use Rattle.std.specs.Prelude.{◌≤◌, ◌≡◌, true, length};
-ghost use Rattle.model.specs.Calls.{bits, typed_item};
-ghost use Rattle.requests.specs.Asked.{item_at, room_at};
-ghost use Rattle.handler.specs.RequestSteps.{Stored};
+// A call's arguments, from the numbers behind the request's word, or what is wrong with them.
+ghost use Rattle.std.specs.Prelude.{◌≡◌, ◌≤◌, ℕ, length, IfOk, OnOk};
+ghost use Rattle.arrayvec.specs.ArrayVec.{array_vec_len};
+ghost use Rattle.model.specs.Tower.{wind_of};
+ghost use Rattle.model.specs.Calls as call;
+ghost use Rattle.requests.specs.Asked.{Asked, called, counted, hang_asked, take_down_asked, wind_asked, room_at};
+ghost use Rattle.handler.specs.Arguments.{asked_for};
 
-use model::Item;
+use crate::{NUMBERS, PRESSURES};
+use arrayvec::ArrayVec;
+use model::{Item, Wind};
+use requests::Fault;
 use units::Length;
 
-fn fits8(n: u64) -> bool
-    ensures { result ≡ bits 8 n }
+// From `low` to `high` numbers.
+fn counted(args: &[u64], low: usize, high: usize) -> Result<(), Fault>
+    ensures asks { (a : Asked) → asked_for (λ _. a) result ≡ counted low high args.now a }
+    ensures within { OnOk result ((low ≤ length args.now) × (length args.now ≤ high)) }
 {
-    n < 256
+    if args.len() < low {
+        return Err(Fault::FewWords);
+    }
+    if high < args.len() {
+        return Err(Fault::ManyWords);
+    }
+    Ok(())
 }
 
-pub(crate) fn fits16(n: u64) -> bool
-    ensures { result ≡ bits 16 n }
+// N numbers.
+pub(crate) fn exactly<const N: usize>(args: &[u64]) -> Result<&[u64; N], Fault>
+    ensures asks { (a : Asked) → asked_for (λ _. a) result ≡ counted N N args.now a }
+    ensures same { IfOk result (λ array. array.now ≡ args.now) }
 {
-    n < 65_536
-}
-
-pub(crate) fn fits32(n: u64) -> bool
-    ensures { result ≡ bits 32 n }
-{
-    n < 4_294_967_296
-}
-
-pub(crate) fn item_fits(args: &[u64]) -> bool
-    requires { length args.now ≡ 7 }
-    ensures { result ≡ typed_item (item_at args.now) }
-{
-    if !fits16(args[0]) {
-        return false;
-    }
-    if !fits8(args[1]) {
-        return false;
-    }
-    if !fits32(args[2]) {
-        return false;
-    }
-    if !fits32(args[3]) {
-        return false;
-    }
-    if !fits16(args[4]) {
-        return false;
-    }
-    if !fits16(args[5]) {
-        return false;
-    }
-    fits16(args[6])
-}
-
-pub(crate) fn item_at(args: &[u64]) -> Item
-    requires { (length args.now ≡ 7) × (typed_item (item_at args.now) ≡ true) }
-    ensures { result ≡ item_at args.now }
-{
-    Item {
-        number: args[0] as u16,
-        section: args[1] as u8,
-        width: Length(args[2] as u32),
-        length: Length(args[3] as u32),
-        bare: args[4] as u16,
-        iced: args[5] as u16,
-        position: args[6] as u16,
+    match <&[u64; N]>::try_from(args) {
+        Ok(array) => Ok(array),
+        Err(_) if args.len() < N => Err(Fault::FewWords),
+        Err(_) => Err(Fault::ManyWords),
     }
 }
 
-// The numbers at the start of out, and whether each of them has 16 bits at most.
-pub(crate) fn store_shorts(numbers: &[u64], out: &mut [u16]) -> bool
-    requires { length numbers.now ≤ length out.old }
-    ensures { Stored 16 numbers.now out.new result }
+#[tactic(auto, unfolding(requests::specs::Asked::hang_asked))]
+pub(crate) fn item_of(args: &[u64]) -> Result<Item, Fault>
+    ensures { asked_for (λ it. called (call.hang it)) result ≡ hang_asked args.now }
 {
-    for i in 0usize..numbers.len() {
-        let n = numbers[i];
-        if !fits16(n) {
-            return false;
-        }
-        out[i] = n as u16;
-    }
-    true
+    let [number, section, width, length, bare, iced, position] = *exactly::<7>(args)?;
+    Ok(Item {
+        number: u16::try_from(number)?,
+        section: u8::try_from(section)?,
+        width: Length(u32::try_from(width)?),
+        length: Length(u32::try_from(length)?),
+        bare: u16::try_from(bare)?,
+        iced: u16::try_from(iced)?,
+        position: u16::try_from(position)?,
+    })
 }
 
-// How many elements are lent: as many as the first number says where there is one, and never more than `most`.
-pub(crate) fn room_at(args: &[u64], most: usize) -> usize
-    ensures { (result ≡ room_at most args.now) × (result ≤ most) }
+#[tactic(auto, unfolding(requests::specs::Asked::take_down_asked))]
+pub(crate) fn number_of(args: &[u64]) -> Result<u16, Fault>
+    ensures { asked_for (λ n. called (call.take_down n)) result ≡ take_down_asked args.now }
 {
-    if args.len() == 0 {
-        return most;
+    let [number] = *exactly::<1>(args)?;
+    Ok(u16::try_from(number)?)
+}
+
+// How many elements are lent: as many as the number says where there is one, and never more than `most`.
+pub(crate) fn room_of(args: &[u64], most: usize) -> Result<usize, Fault>
+    ensures asks { (as_asked : ℕ → Asked) → asked_for as_asked result ≡ counted 0 1 args.now (as_asked (room_at most args.now)) }
+    ensures most { IfOk result (λ n. n ≤ most) }
+{
+    match args {
+        [] => Ok(most),
+        [room] => Ok((*room).min(most as u64) as usize),
+        _ => Err(Fault::ManyWords),
     }
-    let room = args[0];
-    if most as u64 <= room {
-        return most;
+}
+
+// The wind's pressures are put into `pressures`.
+#[tactic(auto, unfolding(requests::specs::Asked::wind_asked))]
+pub(crate) fn wind_of<'a>(
+    args: &[u64],
+    pressures: &'a mut ArrayVec<u16, PRESSURES>,
+) -> Result<Wind<'a>, Fault>
+    requires { array_vec_len pressures.old ≡ 0 }
+    ensures { asked_for (λ w. called (call.wind (wind_of w))) result ≡ wind_asked args.now }
+{
+    counted(args, 3, NUMBERS)?;
+    for n in &args[3..] {
+        pressures.push(u16::try_from(*n)?);
     }
-    room as usize
+    Ok(Wind {
+        direction: u32::try_from(args[0])?,
+        ice: u32::try_from(args[1])?,
+        factor: u32::try_from(args[2])?,
+        pressures,
+    })
 }

@@ -5,17 +5,24 @@ ghost use Rattle.requests.specs.Decoded.{room_of};
 ghost use Rattle.handler.specs.RequestSteps.{RequestSteps};
 
 use crate::answers::{check_by, help_by, report_by, write_by};
-use crate::changes::{erect_by, hang_by, take_down_by, wind_by};
-use replies::Message;
+use crate::changes::{hang_by, take_down_by, wind_by};
+use replies::{Message, Reply};
 use requests::line::read_line;
 use requests::{Request, Verb};
+use service::changes::erect;
 use slots::State;
 
 // A request whose arguments are numbers.
-fn step_by(s: &mut State, verb: Verb, args: &[u64], rows: &mut [u64], file: &mut [u8]) -> Message
+#[tactic(auto, unfolding(requests::specs::Asked::asked_by))]
+fn step_by<'a>(
+    s: &mut State,
+    verb: Verb,
+    args: &[u64],
+    rows: &'a mut [u64],
+    file: &'a mut [u8],
+) -> Message<'a>
     ensures { (most : ℕ)
-        → RequestSteps (asked_by (room_of most (length rows.old) (length file.old)) verb args.now)
-        s.old s.new rows.new file.new result }
+        → RequestSteps (asked_by (room_of most (length rows.old) (length file.old)) verb args.now) s.old s.new result }
 {
     match verb {
         Verb::Hang => hang_by(s, args),
@@ -28,21 +35,22 @@ fn step_by(s: &mut State, verb: Verb, args: &[u64], rows: &mut [u64], file: &mut
     }
 }
 
-// A line, without its end. A report's numbers are put into `rows`, the bytes of a write into `file`; `numbers` and `file` also take those of the line.
-pub(crate) fn step_line(
+// A line, without its end. `file` takes the bytes of an erect and those of a write.
+pub(crate) fn step_line<'a>(
     s: &mut State,
     line: &[u8],
     numbers: &mut [u64],
-    rows: &mut [u64],
-    file: &mut [u8],
-) -> Message
+    rows: &'a mut [u64],
+    file: &'a mut [u8],
+) -> Message<'a>
     ensures { RequestSteps (asked_in (room_of (length numbers.old) (length rows.old) (length file.old)) line.now)
-        s.old s.new rows.new file.new result }
+        s.old s.new result }
 {
-    let request = read_line(line, numbers, file);
-    match request {
-        Request::Numbered(v, n) => step_by(s, v, &numbers[..n], rows, file),
-        Request::Erect(n) => erect_by(s, &file[..n]),
-        Request::Wrong(f) => Message::Wrong(f),
+    match read_line(line, numbers, file)? {
+        Request::Numbered(verb, args) => step_by(s, verb, args, rows, file),
+        Request::Erect(bytes) => {
+            erect(s, bytes)?;
+            Ok(Reply::Done)
+        }
     }
 }

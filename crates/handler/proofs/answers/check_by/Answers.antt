@@ -1,16 +1,19 @@
-use Rattle.handler.proofs.Asking.{check-many, check-so}
-use Rattle.handler.proofs.Stepping.{asks-any, wrong-step}
-use Rattle.handler.proofs.Answering.{over-step, none-step, check-refused}
+use Rattle.model.specs.Calls.{check}
+use Rattle.requests.specs.Asked.{called, check_asked}
+use Rattle.handler.proofs.Stepping.{asks, wrong_step, call_refused}
+use Rattle.handler.proofs.Answering.{check_step}
 use Rattle.handler.proofs.answers.check_by.Goals as goal
 
-pub returns-then-args-gt0 : goal.returns-then-args-gt0
-returns-then-args-gt0 c = wrong-step (check-many _ c.if-args-gt0.true)
+pub returns-in_err-exactly : goal.returns-in_err-exactly
+unfolding check_asked
+returns-in_err-exactly c = wrong_step c.from_residual.result c.from_residual.ensures.1 (c.in_err-exactly.ensures.asks (called check))
 
-pub returns-in-Over : goal.returns-in-Over
-returns-in-Over c = asks-any (check-so _ c.if-args-gt0.false) (over-step _ c.in-Over.ensures)
+pub returns-in_err-check : goal.returns-in_err-check
+unfolding check_asked
+returns-in_err-check c =
+    asks (c.in_ok-exactly.ensures.asks (called check))
+    (call_refused _ _ c.from_residual-in_err-check.result c.from_residual-in_err-check.ensures.1 c.in_err-check.ensures)
 
-pub returns-in-NoneOver : goal.returns-in-NoneOver
-returns-in-NoneOver c = asks-any (check-so _ c.if-args-gt0.false) (none-step c.in-NoneOver.ensures)
-
-pub returns-in-Refused : goal.returns-in-Refused
-returns-in-Refused c = asks-any (check-so _ c.if-args-gt0.false) (check-refused _ c.in-Refused.ensures)
+pub returns : goal.returns
+unfolding check_asked
+returns c = asks (c.in_ok-exactly.ensures.asks (called check)) (check_step _ c.in_ok-check.ensures)

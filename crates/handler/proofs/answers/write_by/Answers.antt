@@ -1,18 +1,23 @@
-use lib.Seq.{length-take-le}
-use Rattle.handler.proofs.Asking.{write-many, write-so}
-use Rattle.handler.proofs.Stepping.{asks, wrong-step}
-use Rattle.handler.proofs.Answering.{file-step, file-refused}
+use Rattle.std.proofs.Common.{refl, length-take-le}
+use Rattle.requests.specs.Asked.{written, write_asked}
+use Rattle.handler.proofs.Stepping.{asks, wrong_step, refused_step, number_is}
+use Rattle.handler.proofs.Answering.{file-step}
 use Rattle.handler.proofs.answers.write_by.Goals as goal
 
-pub returns-then-args-gt1 : goal.returns-then-args-gt1
-returns-then-args-gt1 c = λ rows. wrong-step (write-many _ _ c.if-args-gt1.true) rows _
+pub returns-in_err-room : goal.returns-in_err-room
+unfolding write_asked
+returns-in_err-room c = wrong_step c.from_residual.result c.from_residual.ensures.1 (c.in_err-room.ensures.asks written)
 
-pub returns-in-Written : goal.returns-in-Written
-returns-in-Written c = λ rows.
-    asks (write-so _ _ c.if-args-gt1.false c.room_at-room.ensures.0)
-    (file-step _ _ _ _ _ (length-take-le _ _ c.room_at-room.ensures.1) _ c.in-Written.ensures)
+pub returns-in_err-length : goal.returns-in_err-length
+unfolding write_asked
+returns-in_err-length c =
+    let room = length-take-le _ _ c.in_ok-room.ensures.most in
+    asks (c.in_ok-room.ensures.asks written)
+    (refused_step (written _) _ c.from_residual-in_err-length.result c.from_residual-in_err-length.ensures.1 refl
+    (rw room at (number_is c.in_err-length.ensures.reply)))
 
-pub returns-in-Refused : goal.returns-in-Refused
-returns-in-Refused c = λ rows.
-    asks (write-so _ _ c.if-args-gt1.false c.room_at-room.ensures.0)
-    (file-refused _ _ _ _ _ (length-take-le _ _ c.room_at-room.ensures.1) _ c.in-Refused.ensures)
+pub returns : goal.returns
+unfolding write_asked
+returns c =
+    asks (c.in_ok-room.ensures.asks written)
+    (file-step _ _ _ _ (length-take-le _ _ c.in_ok-room.ensures.most) c.in_ok-length.ensures refl)

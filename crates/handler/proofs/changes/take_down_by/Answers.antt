@@ -1,19 +1,14 @@
-use mathlib.Core.Path.{refl, sym, ◌∙◌}
-use Rattle.handler.proofs.Asking.{down-few, down-many, down-wide, down-so}
-use Rattle.handler.proofs.Stepping.{asks-any, wrong-step, call_step}
+use Rattle.std.proofs.Common.{refl}
+use Rattle.handler.proofs.Stepping.{asks, wrong_step, call_done, call_refused}
 use Rattle.handler.proofs.changes.take_down_by.Goals as goal
 
-pub returns-then-args-lt1 : goal.returns-then-args-lt1
-returns-then-args-lt1 c = wrong-step (down-few _ c.if-args-lt1.true)
+pub returns-in_err-number : goal.returns-in_err-number
+returns-in_err-number c = wrong_step c.from_residual.result c.from_residual.ensures.1 c.in_err-number.ensures
 
-pub returns-then-args-gt1 : goal.returns-then-args-gt1
-returns-then-args-gt1 c = wrong-step (down-many _ c.if-args-gt1.true)
-
-pub returns-then-not-fits16 : goal.returns-then-not-fits16
-returns-then-not-fits16 c =
-    wrong-step (down-wide _ c.if-args-lt1.false c.if-args-gt1.false (sym c.fits16.ensures ∙ c.if-not-fits16.true))
+pub returns-in_err-take_down : goal.returns-in_err-take_down
+returns-in_err-take_down c =
+    asks c.in_ok-number.ensures
+    (call_refused _ _ c.from_residual-in_err-take_down.result c.from_residual-in_err-take_down.ensures.1 c.in_err-take_down.ensures)
 
 pub returns : goal.returns
-returns c =
-    asks-any (down-so _ c.if-args-lt1.false c.if-args-gt1.false (sym c.fits16.ensures ∙ c.if-not-fits16.false))
-    (call_step _ c.take_down.result refl c.take_down.ensures c.message_of.ensures)
+returns c = asks c.in_ok-number.ensures (call_done _ refl c.in_ok-take_down.ensures)

@@ -1,9 +1,14 @@
-use Rattle.handler.proofs.Asking.{wind-few, wind-many}
-use Rattle.handler.proofs.Stepping.{wrong-step}
+use Rattle.std.proofs.Common.{refl}
+use Rattle.handler.proofs.Stepping.{asks, wrong_step, call_done, call_refused}
 use Rattle.handler.proofs.changes.wind_by.Goals as goal
 
-pub returns-then-args-lt3 : goal.returns-then-args-lt3
-returns-then-args-lt3 c = wrong-step (wind-few _ c.if-args-lt3.true)
+pub returns-in_err-wind : goal.returns-in_err-wind
+returns-in_err-wind c = wrong_step c.from_residual.result c.from_residual.ensures.1 c.in_err-wind.ensures
 
-pub returns-then-args-gt3003 : goal.returns-then-args-gt3003
-returns-then-args-gt3003 c = wrong-step (wind-many _ c.if-args-gt3003.true)
+pub returns-in_err-set_wind : goal.returns-in_err-set_wind
+returns-in_err-set_wind c =
+    asks c.in_ok-wind.ensures
+    (call_refused _ _ c.from_residual-in_err-set_wind.result c.from_residual-in_err-set_wind.ensures.1 c.in_err-set_wind.ensures)
+
+pub returns : goal.returns
+returns c = asks c.in_ok-wind.ensures (call_done _ refl c.in_ok-set_wind.ensures)

@@ -1,19 +1,17 @@
--- A line's step is that of what it is decoded to.
-use Rattle.std.proofs.Common.{sym}
-use Rattle.handler.proofs.Stepping.{asks, numbered_step, wrong-step}
+use Rattle.std.proofs.Common.{refl, length}
+use Rattle.handler.proofs.Stepping.{asks, wrong_step, call_done, call_refused}
 use Rattle.handler.proofs.step.step_line.Goals as goal
 
-pub returns-in-Numbered : goal.returns-in-Numbered
-returns-in-Numbered c =
-    let d = rw c.in-Numbered.is at c.read_line-request.ensures in
-    numbered_step d c.read_line-request.auto.file (c.step_by.ensures _)
+pub returns-in_err-verb : goal.returns-in_err-verb
+returns-in_err-verb c = wrong_step c.from_residual.result c.from_residual.ensures.1 (c.in_err-verb.ensures _)
 
-pub returns-in-Erect : goal.returns-in-Erect
-returns-in-Erect c =
-    let d = rw c.in-Erect.is at c.read_line-request.ensures in
-    asks (sym (d.asked _)) (c.erect_by.ensures _ _)
+pub returns-in_err-erect-in-Erect : goal.returns-in_err-erect-in-Erect
+returns-in_err-erect-in-Erect c =
+    let so = rw (c.in_ok-verb.was, c.in-Erect.is) at (c.read_line.ensures (length c.args.rows.now)) in
+    asks so
+    (call_refused _ _ c.from_residual-in_err-erect-in-Erect.result c.from_residual-in_err-erect-in-Erect.ensures.1 c.in_err-erect-in-Erect.ensures)
 
-pub returns-in-Wrong : goal.returns-in-Wrong
-returns-in-Wrong c =
-    let d = rw c.in-Wrong.is at c.read_line-request.ensures in
-    wrong-step (sym (d.asked _)) _ _
+pub returns-in_ok-erect-in-Erect : goal.returns-in_ok-erect-in-Erect
+returns-in_ok-erect-in-Erect c =
+    let so = rw (c.in_ok-verb.was, c.in-Erect.is) at (c.read_line.ensures (length c.args.rows.now)) in
+    asks so (call_done _ refl c.in_ok-erect-in-Erect.ensures)
