@@ -1,103 +1,55 @@
-// The service on standard input and output, from a fresh state until the input ends. A request is a line, and its answer is written before
-// another request is read; `help` says what the requests are. A line that is too long is answered once, at its end.
+// The service on standard input and output, from a fresh state until the input ends. A request is a line, and its
+// answer is written before another request is read; `help` says what the requests are.
 #![tactic(auto)]
 
-mod refill;
-
-use crate::refill::refill;
-use handler::respond::respond;
-use handler::{FILE, NUMBERS, ROWS, TEXT};
-use lines::scan::find;
-use replies::text::put_message;
-use replies::{Fault, Message};
+use handler::respond::answer;
+use handler::{Buffers, FILE, NUMBERS, ROWS, TEXT};
+use requests::line::LONGEST;
 use service::changes::fresh;
-use slots::{EMPTY, State};
+use slots::EMPTY;
 use std::io;
-use std::io::Read;
+use std::io::{BufRead, BufReader, Read};
 
-// The bytes from `at` to `end` of the buffer are read and not answered yet. `cut` says that the start of a line was dropped, since it is
-// too long, `ended` that the input has ended, and `open` that there is more to answer.
-#[derive(Clone, Copy)]
-struct Input {
-    at: usize,
-    end: usize,
-    cut: bool,
-    ended: bool,
-    open: bool,
-}
-
-// A line whose start was dropped.
-fn refuse_long(rt: &impl Print, out: &mut [u8]) -> io::Result<()> {
-    let n = put_message(out, Message::Wrong(Fault::LongLine), &[], &[]);
-    rt.write_all(&out[0..n])
-}
-
-// A line. It fails where its answer cannot be written.
-fn answer(
-    rt: &impl Print,
-    s: &mut State,
-    line: &[u8],
-    numbers: &mut [u64],
-    rows: &mut [u64],
-    file: &mut [u8],
-    out: &mut [u8],
-) -> io::Result<()> {
-    let n = respond(s, line, numbers, rows, file, out);
-    rt.write_all(&out[0..n])
-}
-
-fn serve(
-    rt: &impl Print,
-    stdin: &mut impl Read,
-    buf: &mut [u8],
-    numbers: &mut [u64],
-    rows: &mut [u64],
-    file: &mut [u8],
-    out: &mut [u8],
+// A read that fails counts as the end of the input. Of a line that is too long the start is kept, which is too long
+// as well.
+fn serve<R: Print + AllocGlobal>(
+    rt: &R,
+    input: &mut impl BufRead,
+    buffers: &mut Buffers<'_>,
 ) -> io::Result<()> {
     let mut state = EMPTY;
     fresh(&mut state);
-    let mut input = Input {
-        at: 0,
-        end: 0,
-        cut: false,
-        ended: false,
-        open: true,
-    };
-    let mut turns = u64::MAX;
-    while turns > 0 && input.open {
-        turns -= 1;
-        let at = input.at;
-        let end = input.end;
-        let stop = find(buf, at, end, b'\n');
-        if end <= stop {
-            input = refill(stdin, input, buf);
-        } else if input.cut {
-            input.at = stop + 1;
-            input.cut = false;
-            refuse_long(rt, out)?;
-        } else {
-            input.at = stop + 1;
-            answer(rt, &mut state, &buf[at..stop], numbers, rows, file, out)?;
+    // Room for the longest request and its end, so that memory can run out at the start alone.
+    let mut line = Vec::with_capacity(rt.alloc(), LONGEST + 1)?;
+    for _ in 0..u64::MAX {
+        line.clear();
+        let read = input
+            .by_ref()
+            .take(LONGEST as u64 + 1)
+            .read_until(b'\n', &mut line);
+        if line.is_empty() {
+            break;
+        }
+        if line.last() == Some(&b'\n') {
+            line.pop();
+        } else if LONGEST < line.len() {
+            let _ = input.skip_until(b'\n');
+        }
+        answer(rt, &mut state, &line, buffers)?;
+        if read.is_err() {
+            break;
         }
     }
     Ok(())
 }
 
 fn main(rt: HostRuntime) -> io::Result<()> {
-    let mut stdin = rt.stdin();
-    let mut buf = [0u8; 65536];
-    let mut numbers = [0u64; NUMBERS];
-    let mut rows = [0u64; ROWS];
-    let mut file = [0u8; FILE];
-    let mut out = [0u8; TEXT];
-    serve(
-        &rt,
-        &mut stdin,
-        &mut buf,
-        &mut numbers,
-        &mut rows,
-        &mut file,
-        &mut out,
-    )
+    let mut input = BufReader::with_capacity(rt.alloc(), 65536, rt.stdin())?;
+    let mut buffers = Buffers {
+        numbers: &mut [0; NUMBERS],
+        rows: &mut [0; ROWS],
+        file: &mut [0; FILE],
+        out: &mut [0; TEXT],
+    };
+    serve(&rt, &mut input, &mut buffers)
 }
