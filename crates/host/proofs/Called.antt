@@ -1,5 +1,5 @@
--- What follows from the promise of the C call: it is erect, wind and report from fresh. `Called` is the function's own contract, of what is handed over and
--- handed back.
+-- What follows from the promise of the C call: it is erect, wind and report from fresh. `Called` is the function's own
+-- contract, of what is handed over and handed back.
 use Prim.Native.Nat.{ℕ, ◌*◌, ◌/◌}
 use mathlib.Core.Path.{◌≡◌, refl, sym, subst, ◌∙◌}
 use mathlib.Core.Bool.{cond}

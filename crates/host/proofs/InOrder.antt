@@ -8,10 +8,8 @@ use native.Mathlib.Omega.{arith}
 use lib.Dec.{ltb, eqb}
 use lib.ListN.{length}
 use borrow.Author.Tests.{eqb-true, eq-eqb, ne_eqb}
-use Rattle.model.specs.declared.Answer.{Answer}
-use Rattle.model.specs.declared.Answer.TheVariants as answer
 use Rattle.model.specs.declared.Refusal.{Refusal}
-use Rattle.model.specs.Answers.{Reply, refusal_number, answer_reply, answer_number}
+use Rattle.model.specs.Answers.{Reply, refusal_number, accepts, refuses}
 use Rattle.model.specs.Lists.{all_of}
 use Rattle.model.specs.Ranges.{within, section_count, ice_classes, structure_factor}
 use Rattle.model.specs.Tower.{Tower, Wind}
@@ -28,13 +26,12 @@ use Rattle.model.proofs.Says.{refusal-positive}
 use Rattle.model.proofs.Sections.{in-range}
 use Rattle.slots.specs.Held.{Slots, count_in, state_of}
 use Rattle.slots.specs.Promises.{Meets, wind_asked}
-use Rattle.host.specs.Promises.{Hosts, pressures_asked, Winds, RowsLent}
+use Rattle.host.specs.Promises.{Hosts, pressures_asked, RowsLent}
 use Rattle.host.proofs.RowsOut.{sections-counted}
 
 -- the number that a call answers
-answered : {c : Call} {before after : Slots} {lent : List ℕ} (a : Answer) → Meets c before after (answer_reply a) lent
-    → answer_number a ≡ refusal_of (state_of before) c
-answered a h = ap (λ (r : Reply). r.number) h.reply
+answered : {c : Call} {before after : Slots} {r : Reply} {lent : List ℕ} → Meets c before after r lent → r.number ≡ refusal_of (state_of before) c
+answered h = ap (λ (r : Reply). r.number) h.reply
 
 -- the tower that erect leaves where it is accepted
 pub record Erected (file : List ℕ) (l : Slots) : Type 0 where
@@ -47,12 +44,10 @@ erected-by : (file : List ℕ) (l : Slots) (m : State) (p : Parsed Tower) → re
 erected-by file l m (refused n) r (number h u) e f = absurd (omega arith)
 erected-by file l m (got t rest) r taken e f = record { tower = t; read = r ∙ ap (got t) (accepted-all file r); state = f }
 
-pub erect-accepted : (file : List ℕ) {before after : Slots} (a : Answer) → Meets (erect file) before after (answer_reply a) file
-    → a ≡ answer.Accepted → Erected file after
+pub erect-accepted : (file : List ℕ) {before after : Slots} → Meets (erect file) before after (accepts []) file → Erected file after
 unfolding erect_refusal
-erect-accepted file {before} {after} a h e =
-    erected-by file after (state_of before) (read_file file) refl (file-numbered file) (sym (answered a h) ∙ ap answer_number e)
-    (h.state ∙ erect-state (state_of before) file)
+erect-accepted file {before} {after} h =
+    erected-by file after (state_of before) (read_file file) refl (file-numbered file) (sym (answered h)) (h.state ∙ erect-state (state_of before) file)
 
 -- 15 to 18 where the count is wrong
 miscounted : (a b c : Bool) → refuse_if a 15 (refuse_if b 16 (refuse_if c 17 18)) ≡ 0 → ⊥
@@ -106,14 +101,13 @@ module _ (file : List ℕ) (k ice factor : ℕ) (ps : List ℕ) where
   by-file (got t rest) room h = absurd (omega arith)
   by-file (refused n) room h = refl
 
-  pub erect-refused : {before after : Slots} {e : Refusal} {n : ℕ} {lent : List ℕ} (a : Answer)
-      → Meets (erect file) before after (answer_reply a) file → a ≡ answer.Refused e → n ≡ refusal_number e
-      → Hosts file k ice factor ps lent lent n
+  pub erect-refused : {before after : Slots} {lent : List ℕ} (e : Refusal) → Meets (erect file) before after (refuses e) file
+      → Hosts file k ice factor ps lent lent (refusal_number e)
   unfolding host_refusal erect_refusal
-  erect-refused {e = e} {n} {lent} a h r m =
+  erect-refused {lent = lent} e h =
       let p : 0 < refusal_number e = refusal-positive e in
-      let f : n ≡ file_refusal (read_file file) = m ∙ sym (ap answer_number r) ∙ answered a h in
-      turned_down (f ∙ by-file (read_file file) (length lent) (omega arith)) (omega arith)
+      let f : refusal_number e ≡ file_refusal (read_file file) = answered h in
+      turned_down (f ∙ by-file (read_file file) (length lent) (omega arith)) p
 
   -- after an accepted erect
   module _ {l : Slots} (h : Erected file l) (typed : all_of (bits 8) file ≡ true) where
@@ -136,30 +130,32 @@ module _ (file : List ℕ) (k ice factor : ℕ) (ps : List ℕ) where
         ap (λ (p : Parsed Tower). after_file p (host_wind k ice factor ps) (length ps) room) h.read
         ∙ in_order tower k ice factor ps some-section _
 
-    module _ {after : Slots} (a : Answer) (g : Winds k ice factor (pressures_asked (count_in l) ps) l after (answer_reply a)) where
-      -- wind is asked with the pressures for so many sections as the tower has
-      asked-so : Meets (wind asked_wind) l after (answer_reply a) asked_wind.pressures
-      asked-so = rw (sections-counted l h.state) g
+    -- wind is given the pressures for so many sections as the tower has
+    module _ (after : Slots) {qs : List ℕ} (asked : qs ≡ pressures_asked (count_in l) ps) where
+      abbrev Winds : Reply → Type 0
+      Winds r = Meets (wind (wind_asked k ice factor qs)) l after r qs
 
-      number_is : answer_number a ≡ refusal
+      asked-so : {r : Reply} → Winds r → Meets (wind asked_wind) l after r asked_wind.pressures
+      asked-so g = rw (sections-counted l h.state, ← asked) g
+
+      number_is : {r : Reply} → Winds r → r.number ≡ refusal
       unfolding refusal
-      number_is = answered a asked-so ∙ ap (λ (m : State). wind_refusal m asked_wind) h.state
+      number_is g = answered (asked-so g) ∙ ap (λ (m : State). wind_refusal m asked_wind) h.state
 
-      pub wind-refused : {e : Refusal} {n : ℕ} {lent : List ℕ} → a ≡ answer.Refused e → n ≡ refusal_number e → Hosts file k ice factor ps lent lent n
-      wind-refused {e} {n} {lent} r m =
+      pub wind-refused : {lent : List ℕ} (e : Refusal) → Winds (refuses e) → Hosts file k ice factor ps lent lent (refusal_number e)
+      wind-refused {lent} e g =
           let p : 0 < refusal_number e = refusal-positive e in
-          let f : n ≡ refusal = m ∙ sym (ap answer_number r) ∙ number_is in
-          let z : eqb refusal 0 ≡ false = ne_eqb refusal 0 (λ (y : refusal ≡ 0). omega arith) in
-          turned_down (f ∙ sym (host-number (length lent) ∙ rw z)) (omega arith)
+          let z : eqb refusal 0 ≡ false = ne_eqb refusal 0 (λ (y : refusal ≡ 0). omega (arith, number_is g)) in
+          turned_down (number_is g ∙ sym (host-number (length lent) ∙ rw z)) p
 
-      module _ (accepted : a ≡ answer.Accepted) where
+      module _ (g : Winds (accepts [])) where
         none-met : refusal ≡ 0
-        none-met = sym number_is ∙ ap answer_number accepted
+        none-met = sym (number_is g)
 
         blows : state_of after ≡ standing tower (some (host_wind k ice factor ps))
         unfolding refusal
         blows =
-            asked-so.state
+            (asked-so g).state
             ∙ ap (λ (m : State). step m (wind asked_wind)) h.state
             ∙ ap (λ (n : ℕ). cond (eqb n 0) (standing tower (some asked_wind)) (standing tower none)) none-met
             ∙ ap (λ (w : Wind). standing tower (some w)) (counted tower k ice factor ps some-section none-met)

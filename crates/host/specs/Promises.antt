@@ -3,13 +3,9 @@ use Rattle.std.specs.Prelude.{ℕ, ◌*◌, ◌≡◌, cond, List, [], eqb, ltb,
 use Rattle.model.specs.Lists.{joined}
 use Rattle.model.specs.Bytes.{bytes}
 use Rattle.model.specs.Tower.{Tower, Wind}
-use Rattle.model.specs.Answers.{Reply}
 use Rattle.model.specs.Report.{rows_of}
 use Rattle.model.specs.Machine.{refuse_if, filled}
-use Rattle.model.specs.Calls.{wind}
 use Rattle.model.specs.Host.{pressures_of, host_refusal, host_out}
-use Rattle.slots.specs.Held.{Slots}
-use Rattle.slots.specs.Promises.{Meets, wind_asked}
 
 -- the answer is 0 or the number of the first refusal whose condition is met, and every lent byte is the definition's
 pub record Hosts (file : List ℕ) (k ice factor : ℕ) (ps before after : List ℕ) (r : ℕ) : Type 0 where
@@ -19,10 +15,6 @@ pub record Hosts (file : List ℕ) (k ice factor : ℕ) (ps before after : List 
 -- the pressures that wind is given for n sections: none where there are not 2 bytes for each
 abbrev pub pressures_asked : ℕ → List ℕ → List ℕ
 pressures_asked n ps = cond (eqb (length ps) (2 * n)) (pressures_of ps) []
-
--- wind with these pressures
-abbrev pub Winds : ℕ → ℕ → ℕ → List ℕ → Slots → Slots → Reply → Type 0
-Winds k ice factor ps before after r = Meets (wind (wind_asked k ice factor ps)) before after r ps
 
 -- the rows of a tower under a wind, 8 bytes a number; 22 where there are fewer than 48 bytes per section
 pub record RowsLent (t : Tower) (w : Wind) (before after : List ℕ) (r : ℕ) : Type 0 where
