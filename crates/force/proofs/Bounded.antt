@@ -73,10 +73,10 @@ module _ (p : PreparedFace) (w : Loading) (hs : 0 < (solid p.face.areas).0) wher
       pos-of-mul x y h = ⊎_elim (λ (z : x ≡ 0). absurd (let w : x * y ≡ 0 * y = ap (λ (n : ℕ). n * y) z in omega arith)) (λ (g : 0 < x). g) (eq-zero-or-pos x)
 
   module _ (x : Linear) (g : LinearOf p w x) (f : ℕ) where
-    between : (low high : ℕ) → Between p.sum (root_square p.legs p.face.areas p.face.gap.0) low high
+    pub bounded-exact : (low high : ℕ) → Between p.sum (root_square p.legs p.face.areas p.face.gap.0) low high
         → Decides x.factor x.slope low high x.divisor x.offset f → Least (only (force_on p w)) f
     unfolding root_square
-    between low high b t =
+    bounded-exact low high b t =
         let above : 0 < x.divisor = rw g.divisor divisor-above in
         let h : _ =
         least-bounded x.factor x.slope p.sum x.offset x.divisor p.face.areas.supercritical.0 ((solid p.face.areas).0 + p.face.gap.0)
@@ -93,11 +93,11 @@ module _ (p : PreparedFace) (w : Loading) (hs : 0 < (solid p.face.areas).0) wher
         go : (o : Option (Bounds ℕ)) → IfSome o (λ b. Between p.sum (root_square p.legs p.face.areas p.face.gap.0) b.low b.high)
             → IsSomeAnd o (λ b. Decides x.factor x.slope b.low b.high x.divisor x.offset f) → Least (only (force_on p w)) f
         go None b t = absurd t
-        go (Some r) b t = between r.low r.high b t
+        go (Some r) b t = bounded-exact r.low r.high b t
 
     -- at the sum, where there is no root
     pub by-sum : p.face.areas.supercritical.0 ≡ 0 → Decides x.factor x.slope p.sum p.sum x.divisor x.offset f → Least (only (force_on p w)) f
-    by-sum z t = between p.sum p.sum (rootless p.legs p.face.areas p.face.gap.0 p.sum z) t
+    by-sum z t = bounded-exact p.sum p.sum (rootless p.legs p.face.areas p.face.gap.0 p.sum z) t
 
   -- no pressure, no force
   pub no-pressure : w.pressure * w.factor ≡ 0 → Least (only (force_on p w)) 0

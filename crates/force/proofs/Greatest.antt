@@ -1,5 +1,5 @@
 -- The greatest of the formula's values, wind by wind. A lesser wind that cannot be the greatest changes nothing.
-use Prim.Native.Nat.{ℕ, zero, suc, ◌+◌, ◌-◌, ◌≤◌, ◌<◌}
+use Prim.Native.Nat.{ℕ, zero, suc, ◌+◌, ◌-◌, ◌*◌, ◌≤◌, ◌<◌}
 use mathlib.Core.Path.{◌≡◌, refl, sym, ap, ◌∙◌}
 use mathlib.Core.Bool.{Bool, cond, true, false, ◌||◌, true≢false}
 use mathlib.Core.List.{List, [], ◌∷◌, ◌++◌, map, map-append}
@@ -90,11 +90,23 @@ module _ (s : LoadedSection) where
         → Least (greatest_to s (i + 1)) m
     covered c = rw more-is (least-covered c a)
 
-    skipped : Needless s.case.ice.thickness s.pressure groups i p → Least (greatest_to s (i + 1)) m
+    -- which is at most a quarter of the pressure
+    pub greatest-weak : 4 * p ≤ s.pressure → Least (greatest_to s (i + 1)) m
+    greatest-weak w =
+        covered
+        (λ n c.
+        at-least-only
+        (quarter s.case.legs s.case.direction s.case.ice.thickness s.case.factor (section_of s.section.now) s.items (stands s)
+        p s.pressure w n (first_of i n c)))
+
+    -- or that of a group before
+    pub greatest-seen : any_of (eqb p) (winds (take i groups)) ≡ true → Least (greatest_to s (i + 1)) m
     unfolding greatest_to
-    skipped (weak w) = covered (λ n c. at-least-only (quarter s.case.legs s.case.direction s.case.ice.thickness s.case.factor (section_of s.section.now) s.items (stands s) p s.pressure w n (first_of i n c)))
-    skipped (seen f) =
-        covered (λ n c. at-least-only (every-at (formula_in s) (later (listed p (winds (take i groups)) f)) c.each))
+    greatest-seen f = covered (λ n c. at-least-only (every-at (formula_in s) (later (listed p (winds (take i groups)) f)) c.each))
+
+    skipped : Needless s.case.ice.thickness s.pressure groups i p → Least (greatest_to s (i + 1)) m
+    skipped (weak w) = greatest-weak w
+    skipped (seen f) = greatest-seen f
 
     -- one that is worked out
     pub greatest-more : {r : ℕ} → Least (only (formula_in s p)) r → Least (greatest_to s (i + 1)) (greater m r)

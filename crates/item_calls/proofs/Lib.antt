@@ -4,3 +4,4 @@ pub mod WaysOut
 pub mod ClosingUp
 pub mod Downs
 pub mod Nexts
+pub mod Rules

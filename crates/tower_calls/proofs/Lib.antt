@@ -4,3 +4,4 @@ pub mod Erects
 pub mod Winds
 pub mod WindPut
 pub mod Built
+pub mod Rules
