@@ -1,23 +1,28 @@
 -- A field at a place: its number and the next place, or 2 exactly if fewer bytes than its own remain; and the number
 -- from its bytes.
-use Prim.Native.Nat.{ℕ, ◌+◌, ◌-◌, ◌*◌, ◌^◌, ◌≤◌, ◌<◌}
+use Prim.Native.Nat.{ℕ, suc, ◌+◌, ◌-◌, ◌*◌, ◌^◌, ◌≤◌, ◌<◌}
 use mathlib.Core.Path.{◌≡◌, refl, ap, ap₂, sym, ◌∙◌}
 use mathlib.Core.Bool.{Bool, true, false}
 use mathlib.Core.List.{List, [], ◌∷◌}
 use native.Mathlib.Nat.{zero-add, pow-le-pow_right, lt_of_lt_of_le}
 use native.Mathlib.Omega.{arith}
 use lib.Dec.{leb, lit≤}
-use lib.ListN.{length, take, drop, get_or, length-drop}
-use lib.Seq.{drop-drop}
-use borrow.Author.Tests.{le-leb, lt-leb}
+use lib.ListN.{length, take, drop, get_or, length-drop, take-append-drop}
+use lib.Seq.{drop-drop, length-take-le}
+use borrow.Author.Tests.{le-leb, lt-leb, lt-ltb}
+use borrow.Rule.Slice.PartMut.{put_mid}
 use Rattle.std.specs.Prelude.{Result, Ok, Err}
 use Rattle.std.specs.Array.{IsFirstChunk}
-use Rattle.std.specs.Int.{w16, w32, from_be_bytes}
+use Rattle.std.specs.Int.{w32, from_be_bytes}
 use Rattle.model.specs.declared.Refusal.{Refusal}
 use Rattle.model.specs.declared.Refusal.TheVariants.{FileEnds}
 use Rattle.model.specs.Answers.{refusal_number}
 use Rattle.model.specs.Reading.{got, refused, require, bytes_number, field}
-use Rattle.model.proofs.Fields.{number-next}
+use Rattle.model.specs.Lists.{all_of}
+use Rattle.model.specs.Calls.{bits}
+use Rattle.exact.proofs.Bools.{and-join}
+use Rattle.model.proofs.Fields.{number-next, number_bound}
+use Rattle.model.proofs.Lists.{all-parts, all_take}
 use Rattle.model.proofs.OneAnswer.{refusal-same}
 use Rattle.file_fields.specs.Outcomes.{ReadsField}
 use Rattle.file_fields.proofs.Answered.{rest, rest-is}
@@ -75,24 +80,36 @@ module _ (w : ℕ) (s : List ℕ) (at : ℕ) where
       let number : refusal_number e ≡ 2 = cc in
       ap Err (refusal-same {r = e} {s = FileEnds} number)
 
--- the number of std's readers
-pub be_two : {s b : List ℕ} → IsFirstChunk s b 2 → from_be_bytes w16 b ≡ bytes_number 0 b
-be_two {s} h = rw h.same (of_two s h.enough)
-  where
-    of_two : (l : List ℕ) → 2 ≤ length l → from_be_bytes w16 (take 2 l) ≡ bytes_number 0 (take 2 l)
-    of_two [] g = absurd (omega arith)
-    of_two (a ∷ []) g = absurd (omega arith)
-    of_two (a ∷ b ∷ l) g = omega arith
+-- the number of a word of four bytes, of which the last are b and those before are 0
+word_number : (b : List ℕ) → length b ≤ 4
+    → from_be_bytes w32 (put_mid (4 - length b) (4 - (4 - length b)) (0 ∷ 0 ∷ 0 ∷ 0 ∷ []) b) ≡ bytes_number 0 b
+word_number [] h = refl
+word_number (x ∷ []) h = omega arith
+word_number (x ∷ y ∷ []) h = omega arith
+word_number (x ∷ y ∷ z ∷ []) h = omega arith
+word_number (x ∷ y ∷ z ∷ u ∷ []) h = omega arith
+word_number (x ∷ y ∷ z ∷ u ∷ v ∷ b) h = absurd (omega arith)
 
-pub be_four : {s b : List ℕ} → IsFirstChunk s b 4 → from_be_bytes w32 b ≡ bytes_number 0 b
-be_four {s} h = rw h.same (of_four s h.enough)
-  where
-    of_four : (l : List ℕ) → 4 ≤ length l → from_be_bytes w32 (take 4 l) ≡ bytes_number 0 (take 4 l)
-    of_four [] g = absurd (omega arith)
-    of_four (a ∷ []) g = absurd (omega arith)
-    of_four (a ∷ b ∷ []) g = absurd (omega arith)
-    of_four (a ∷ b ∷ c ∷ []) g = absurd (omega arith)
-    of_four (a ∷ b ∷ c ∷ d ∷ l) g = omega arith
+-- a slice of bytes, and the number of a part of it
+pub all-bytes : (l : List ℕ) → ((i : ℕ) → get_or l i 0 < 256) → all_of (bits 8) l ≡ true
+all-bytes [] h = refl
+all-bytes (x ∷ l) h = and-join (lt-ltb x (2 ^ 8) (h 0)) (all-bytes l (λ i. h (suc i)))
+
+part_bound : (s : List ℕ) (at n : ℕ) → ((i : ℕ) → get_or s i 0 < 256) → n ≤ length (rest s at)
+    → bytes_number 0 (take n (rest s at)) < 256 ^ n
+part_bound s at n h l =
+    let behind = (all-parts (bits 8) (take at s) (drop at s) (ap (all_of (bits 8)) (take-append-drop at s) ∙ all-bytes s h)).1 in
+    let part = all_take (bits 8) n (rest s at) (ap (all_of (bits 8)) (rest-is s at) ∙ behind) in
+    rw (length-take-le n (rest s at) l) at (number_bound (take n (rest s at)) part)
+
+-- a field of n bytes b, copied as w into a word
+pub fetched : (n : ℕ) (s : List ℕ) (at : ℕ) (b w : List ℕ) (v : ℕ) → at ≤ length s → n ≤ 4 → ((i : ℕ) → get_or s i 0 < 256)
+    → IsFirstChunk (rest s at) b n → w ≡ b → v ≡ from_be_bytes w32 (put_mid (4 - n) (4 - (4 - n)) (0 ∷ 0 ∷ 0 ∷ 0 ∷ []) w)
+    → ReadsField n s at (Ok (v, at + n))
+fetched n s at b w v l m h c e k =
+    let long : length b ≡ n = rw c.same (length-take-le n (rest s at) c.enough) in
+    let number : v ≡ bytes_number 0 b = k ∙ rw (e, ← long) (word_number b (omega arith)) in
+    field_is n s at b v l c.enough c.same number (rw (number, c.same) (part_bound s at n h c.enough))
 
 -- one turn of a loop over a field's bytes; before its last byte a number of at most four has room for one more
 pub number-turn : (l : List ℕ) (i : ℕ) → i < length l → bytes_number 0 (take (i + 1) l) ≡ bytes_number 0 (take i l) * 256 + get_or l i 0

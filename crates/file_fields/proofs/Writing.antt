@@ -120,6 +120,3 @@ module _ {A : Type 0} (f : A → List ℕ) where
       let j : length (joined f (take i l)) + length (f x) ≤ length (joined f l) = rw (← e) at (joined-room l i x h) in
       let same = puts-long p (omega arith) in
       record { fits = omega arith; same = same; rest = omega (arith, rest-long o at) }
-
-  pub puts-all : (l : List A) (i : ℕ) {d o : List ℕ} {n : ℕ} → length l ≤ i → Puts (joined f (take i l)) d o n → Puts (joined f l) d o n
-  puts-all l i h p = rw (take_all i l h) at p

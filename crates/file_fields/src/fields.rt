@@ -9,25 +9,18 @@ ghost use Rattle.file_fields.specs.Written.{Puts};
 use crate::Parsed;
 use model::{Range, Refusal};
 
-// Each reader answers the number of the field at a place, and the next place. These two fetch a field as one number.
-pub fn fetch_two(file: &[u8], at: usize) -> Parsed<u32>
-    requires { at ≤ length file.now }
-    ensures { ReadsField 2 file.now at result }
+// Each reader answers the number of the field at a place, and the next place. This one fetches the field as one number.
+pub fn fetch<const N: usize>(file: &[u8], at: usize) -> Parsed<u32>
+    requires place { at ≤ length file.now }
+    requires width { N ≤ 4 }
+    ensures { ReadsField N file.now at result }
 {
-    let Some(bytes) = file[at..].first_chunk::<2>() else {
+    let Some(bytes) = file[at..].first_chunk::<N>() else {
         return Err(Refusal::FileEnds);
     };
-    Ok((u32::from(u16::from_be_bytes(*bytes)), at + 2))
-}
-
-pub fn fetch_four(file: &[u8], at: usize) -> Parsed<u32>
-    requires { at ≤ length file.now }
-    ensures { ReadsField 4 file.now at result }
-{
-    let Some(bytes) = file[at..].first_chunk::<4>() else {
-        return Err(Refusal::FileEnds);
-    };
-    Ok((u32::from_be_bytes(*bytes), at + 4))
+    let mut word = [0; 4];
+    word[4 - N..].copy_from_slice(bytes);
+    Ok((u32::from_be_bytes(word), at + N))
 }
 
 // A field of any width, byte by byte.
@@ -45,14 +38,15 @@ pub fn read_bytes(file: &[u8], at: usize, width: usize) -> Parsed<u32>
     Ok((value, at + width))
 }
 
-// The reader for the field's width.
+// The reader for the field's width. As document 01 has it, its answer is taken apart by let .. else; it is refused only
+// where the file ends.
 pub fn read_field(file: &[u8], at: usize, width: usize) -> Parsed<u32>
     requires { (at ≤ length file.now) × (width ≤ 4) }
     ensures { ReadsField width file.now at result }
 {
     match width {
-        2 => fetch_two(file, at),
-        4 => fetch_four(file, at),
+        2 => fetch::<2>(file, at),
+        4 => fetch::<4>(file, at),
         _ => read_bytes(file, at, width),
     }
 }
@@ -77,7 +71,8 @@ pub fn read_ranged(
     Ok((value, next))
 }
 
-// Puts the number's bytes at the start of out and answers how many they are. A field of more than eight begins with zeros.
+// Puts the number's bytes at the start of out and answers how many they are. A field of more than eight begins with
+// zeros.
 pub fn write_field(out: &mut [u8], width: usize, value: u64) -> usize
     requires { width ≤ length out.old }
     ensures { Puts (bytes width value) out.old out.new result }

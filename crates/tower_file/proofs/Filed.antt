@@ -1,29 +1,22 @@
 -- What the answer to a whole file comes to.
-use Prim.Native.Nat.{ℕ, suc, ◌^◌, ◌≤◌, ◌<◌}
-use mathlib.Core.Path.{◌≡◌, refl}
+use Prim.Native.Nat.{ℕ, ◌≤◌}
+use mathlib.Core.Path.{◌≡◌}
 use mathlib.Core.Bool.{true, false}
-use mathlib.Core.List.{List, [], ◌∷◌}
+use mathlib.Core.List.{List}
 use native.Mathlib.Omega.{arith}
 use lib.Dec.{eqb}
-use lib.ListN.{length, drop, get_or, length-drop}
-use borrow.Author.Tests.{lt-ltb, eq-eqb, ne_eqb}
+use lib.ListN.{length, drop, length-drop}
+use borrow.Author.Tests.{eq-eqb, ne_eqb}
 use Rattle.std.specs.Prelude.{Result}
 use Rattle.std.specs.Result.{IsErrAnd}
 use Rattle.std.proofs.lemmas.Result.{err_from_is_err_and}
-use Rattle.exact.proofs.Bools.{and-join}
 use Rattle.model.specs.declared.Refusal.{Refusal}
 use Rattle.model.specs.declared.Tower as stored
 use Rattle.model.specs.Answers.{refusal_number}
-use Rattle.model.specs.Lists.{all_of}
 use Rattle.model.specs.Reading.{refused}
 use Rattle.model.specs.File.{read_file}
-use Rattle.model.specs.Calls.{bits}
+pub use Rattle.file_fields.proofs.Fetched.{all-bytes}
 use Rattle.tower_file.specs.Stored.{ReadsFile}
-
--- a slice of bytes
-pub all-bytes : (l : List ℕ) → ((i : ℕ) → get_or l i 0 < 256) → all_of (bits 8) l ≡ true
-all-bytes [] h = refl
-all-bytes (x ∷ l) h = and-join (lt-ltb x (2 ^ 8) (h 0)) (all-bytes l (λ i. h (suc i)))
 
 -- a refusal that is handed on by `?`
 pub turned_down : {file : List ℕ} (e : Refusal) (r : Result stored.Tower Refusal) → IsErrAnd r (λ y. y ≡ e) → read_file file ≡ refused (refusal_number e)
