@@ -1,12 +1,14 @@
-// Reads tower files from standard input, one a line, and prints for each what the reader and the writer make of it. A line is one of
+// Reads tower files from standard input, one a line, and prints for each what the reader and the writer make of it.
+// A line is one of
 //     f B B ..        the file of these bytes; the lines after it have it as their base file
 //     c N             the first N bytes of the base file
 //     s AT B AT B ..  the base file with the byte at AT replaced by B, for each pair
 //     a B B ..        the base file with these bytes behind it
 //     r N             the base file, whose tower is written into N lent bytes
-// The answer is `refused N`, with document 01's number, or `ok LENGTH TOWER OUT`: the length that write answers, a digest of the tower, and
-// one of LENGTH + 5 lent bytes, all 165 before, into which it is written. For r it is `ok LENGTH OUT`, or `refused 22 OUT` where they are too
-// few. A file, and what is lent, has at most 4000 bytes. Any other line is answered by what is wrong with it first.
+// The answer is `refused N`, with document 01's number, or `ok LENGTH TOWER OUT`: the length that write answers, a
+// digest of the tower, and one of LENGTH + 5 lent bytes, all 165 before, into which it is written. For r it is
+// `ok LENGTH OUT`, or `refused 22 OUT` where they are too few. A file, and what is lent, has at most 4000 bytes. Any
+// other line is answered by what is wrong with it first.
 #![tactic(auto)]
 
 mod answers;

@@ -1,9 +1,7 @@
 -- A loop that reads so many parts: reading the rest after those so far gives the whole list.
 use Prim.Native.Nat.{ℕ, ◌+◌, ◌-◌, ◌≤◌, ◌<◌}
-use mathlib.Core.Path.{◌≡◌, refl, ◌∙◌}
+use mathlib.Core.Path.{◌≡◌, ◌∙◌}
 use mathlib.Core.List.{List, [], ◌∷◌, ◌++◌}
-use native.Mathlib.Nat.{sub-zero}
-use native.Mathlib.Omega.{arith}
 use lib.ListN.{length, drop}
 use Rattle.model.specs.Reading.{Parsed, got, refused, many}
 use Rattle.model.proofs.Readings.{many-done, many-step, many-refused}
@@ -13,9 +11,6 @@ module _ {A : Type 0} (p : List A → List ℕ → Parsed A) (n : ℕ) (before :
   pub record SoFar (i : ℕ) (l : List A) (at : ℕ) : Type 0 where
     pub within : at ≤ length s
     pub same : many p n before s ≡ many p (n - i) l (drop at s)
-
-  pub none_yet : SoFar 0 before 0
-  none_yet = record { within = omega arith; same = rw sub-zero refl }
 
   module _ {i : ℕ} {l : List A} {at : ℕ} (so : SoFar i l at) where
     pub one_more : {a : A} {next : ℕ} → i < n → (p l (drop at s) ≡ got a (drop next s)) × (next ≤ length s) → SoFar (i + 1) (l ++ (a ∷ [])) next

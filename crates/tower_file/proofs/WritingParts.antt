@@ -37,8 +37,8 @@ module _ (t : stored.Tower) where
   unfolding file_of
   file-parts = rw (joined-map section_bytes section_of t.sections.items, length-map) (simp append_assoc)
 
-  pub parts-length : 3 + length (joined stored_bytes t.sections.items) + length (joined item_bytes t.items.items) ≡ length (file_of (tower_of t))
-  parts-length = omega (arith, simp (length-append, length-bytes) at (ap length file-parts))
+  pub parts_length : 3 + length (joined stored_bytes t.sections.items) + length (joined item_bytes t.items.items) ≡ length (file_of (tower_of t))
+  parts_length = omega (arith, simp (length-append, length-bytes) at (ap length file-parts))
 
 -- the answers of the writer of files
 pub writes-none : (t : Tower) (d : List ℕ) → length d < length (file_of t) → WritesFile t d d (Err OutputShort)

@@ -42,6 +42,7 @@ pub fn file_length(tower: &Tower) -> usize
     3 + sections_length(&tower.sections) + ITEM_BYTES * tower.items.len()
 }
 
+#[tactic(auto, using(crate::proofs::WritingParts::parts_length), unfolding(model::specs::Bytes::bytes))]
 fn write_parts(tower: &Tower, out: &mut [u8]) -> usize
     requires { length (file_of (tower_of tower.now)) ≤ length out.old }
     ensures { Puts (file_of (tower_of tower.now)) out.old out.new result }
@@ -53,7 +54,8 @@ fn write_parts(tower: &Tower, out: &mut [u8]) -> usize
     at + write_each(&mut out[at..], &tower.items)
 }
 
-// Puts the file of a tower at the start of out and answers its length. Bytes beyond it stay, and all do if out is too short.
+// Puts the file of a tower at the start of out and answers its length. Bytes beyond it stay, and all do if out is too
+// short.
 pub fn write(tower: &Tower, out: &mut [u8]) -> Result<usize, Refusal>
     ensures { WritesFile (tower_of tower.now) out.old out.new result }
 {

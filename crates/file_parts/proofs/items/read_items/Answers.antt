@@ -5,11 +5,8 @@ use Rattle.file_fields.proofs.Answered.{onward, onward-no, passed_on}
 use Rattle.file_fields.proofs.Fetched.{field_barred}
 use Rattle.file_parts.specs.Parts.{read_item_rest}
 use Rattle.file_parts.proofs.Order.{number-first}
-use Rattle.file_parts.proofs.SoFar.{none_yet, one_more, no_more, all_read}
+use Rattle.file_parts.proofs.SoFar.{one_more, no_more, all_read}
 use Rattle.file_parts.proofs.items.read_items.Goals as goal
-
-pub loop-init : goal.loop-init
-loop-init c = rw c.new-earlier.ensures (refl, none_yet (read_item c.args.sections) c.args.count [] c.args.file.now)
 
 pub returns-in_default : goal.returns-in_default
 unfolding read_items

@@ -1,11 +1,8 @@
-use Rattle.std.proofs.Common.{[], ◌∷◌, map, arith}
+use Rattle.std.proofs.Common.{[], ◌∷◌, arith}
 use Rattle.std.proofs.lemmas.List.{map-append}
 use Rattle.file_fields.proofs.Answered.{onward, onward-no, passed_on}
-use Rattle.file_parts.proofs.SoFar.{none_yet, one_more, no_more, all_read}
+use Rattle.file_parts.proofs.SoFar.{one_more, no_more, all_read}
 use Rattle.file_parts.proofs.parts.read_each.Goals as goal
-
-pub loop-init : goal.loop-init
-loop-init g c = (omega arith, none_yet _ c.args.count (map g.T.FromBytes.value_of c.args.parts.now.items) c.args.file.now)
 
 pub returns-in_err-part : goal.returns-in_err-part
 returns-in_err-part g c =
