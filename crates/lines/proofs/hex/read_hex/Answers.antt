@@ -1,13 +1,8 @@
 use Rattle.std.proofs.Common.{◌≡◌, sym, ◌∙◌, arith}
 use Rattle.std.proofs.lemmas.Result.{err_from_is_err_and}
 use Rattle.lines.specs.declared.hex.HexError.TheVariants.{Bad}
-use Rattle.lines.proofs.Pairs.{paired_none, no_pair, paired_more, paired_all}
+use Rattle.lines.proofs.Pairs.{no_pair, paired_more, paired_all}
 use Rattle.lines.proofs.hex.read_hex.Goals as goal
-
-pub loop-i-init : goal.loop-i-init
-loop-i-init c =
-    rw (c.into_iter-i-iterator.ensures.into_iter_gives, c.enumerate-i-items.ensures.source, c.enumerate-i-items.ensures.count, c.chunks_exact.ensures.rest)
-    (record { paired = paired_none _ _; two = c.chunks_exact.ensures.size })
 
 pub returns-in_err-out : goal.returns-in_err-out
 returns-in_err-out c =

@@ -1,11 +1,6 @@
 use Rattle.std.proofs.Common.{◌∙◌, arith}
-use Rattle.replies.proofs.Rows.{no_rows, row_put, all_rows}
+use Rattle.replies.proofs.Rows.{row_put, all_rows}
 use Rattle.replies.proofs.text.put_rows.Goals as goal
-
-pub loop-row-init : goal.loop-row-init
-loop-row-init c =
-    rw (c.into_iter-row-iterator.ensures.into_iter_gives, c.chunks_exact-row-items.ensures.rest)
-    (record { put = no_rows _ _; six = c.chunks_exact-row-items.ensures.size })
 
 pub loop-row-preserved : goal.loop-row-preserved
 loop-row-preserved c =
