@@ -1,55 +1,77 @@
 // The service on standard input and output, from a fresh state until the input ends. A request is a line, and its
-// answer is written before another request is read; `help` says what the requests are.
+// answer is written before another request is read; `help` says what the requests are. A line that is too long is
+// answered once, at its end. Nothing is taken from the heap, so that memory cannot run out.
 #![tactic(auto)]
 
+mod refill;
+
+use crate::refill::refill;
 use handler::respond::answer;
 use handler::{Buffers, FILE, NUMBERS, ROWS, TEXT};
-use requests::line::LONGEST;
+use replies::text::put_message;
+use requests::Fault;
 use service::changes::fresh;
 use slots::EMPTY;
 use std::io;
-use std::io::{BufRead, BufReader, Read};
+use std::io::Read;
 
-// A read that fails counts as the end of the input. Of a line that is too long the start is kept, which is too long
-// as well.
-fn serve<R: Print + AllocGlobal>(
-    rt: &R,
-    input: &mut impl BufRead,
+// The bytes from `at` to `end` of the buffer are read and not answered yet. `cut` says that the start of a line was
+// dropped, since it is too long, `ended` that the input has ended, and `open` that there is more to answer.
+#[derive(Clone, Copy)]
+struct Input {
+    at: usize,
+    end: usize,
+    cut: bool,
+    ended: bool,
+    open: bool,
+}
+
+// A line whose start was dropped.
+fn refuse_long(rt: &impl Print, out: &mut [u8]) -> io::Result<()> {
+    let length = put_message(out, Err(Fault::LongLine.into()));
+    rt.write_all(&out[..length])
+}
+
+fn serve(
+    rt: &impl Print,
+    stdin: &mut impl Read,
+    buf: &mut [u8],
     buffers: &mut Buffers<'_>,
 ) -> io::Result<()> {
     let mut state = EMPTY;
     fresh(&mut state);
-    // Room for the longest request and its end, so that memory can run out at the start alone.
-    let mut line = Vec::with_capacity(rt.alloc(), LONGEST + 1)?;
-    for _ in 0..u64::MAX {
-        line.clear();
-        let read = input
-            .by_ref()
-            .take(LONGEST as u64 + 1)
-            .read_until(b'\n', &mut line);
-        if line.is_empty() {
-            break;
+    let mut input = Input {
+        at: 0,
+        end: 0,
+        cut: false,
+        ended: false,
+        open: true,
+    };
+    let mut turns = u64::MAX;
+    while turns > 0 && input.open {
+        turns -= 1;
+        let unanswered = &buf[input.at..input.end];
+        let Some(length) = unanswered.iter().position(|b| *b == b'\n') else {
+            input = refill(stdin, input, buf);
+            continue;
+        };
+        if input.cut {
+            refuse_long(rt, buffers.out)?;
+        } else {
+            answer(rt, &mut state, &unanswered[..length], buffers)?;
         }
-        if line.last() == Some(&b'\n') {
-            line.pop();
-        } else if LONGEST < line.len() {
-            let _ = input.skip_until(b'\n');
-        }
-        answer(rt, &mut state, &line, buffers)?;
-        if read.is_err() {
-            break;
-        }
+        input.at += length + 1;
+        input.cut = false;
     }
     Ok(())
 }
 
 fn main(rt: HostRuntime) -> io::Result<()> {
-    let mut input = BufReader::with_capacity(rt.alloc(), 65536, rt.stdin())?;
     let mut buffers = Buffers {
         numbers: &mut [0; NUMBERS],
         rows: &mut [0; ROWS],
         file: &mut [0; FILE],
         out: &mut [0; TEXT],
     };
-    serve(&rt, &mut input, &mut buffers)
+    serve(&rt, &mut rt.stdin(), &mut [0; 65536], &mut buffers)
 }
