@@ -5,7 +5,7 @@ use crate::digest::tower_digest;
 use crate::files::MOST_BYTES;
 use crate::wrong::Wrong;
 use lines::digest::digest_of;
-use model::Refusal;
+use model::{Refusal, Tower};
 use std::fmt;
 use tower_file::file::{file_length, read, write};
 
@@ -33,29 +33,28 @@ impl fmt::Display for Answer {
 // Bytes to lend: five more than a file may have.
 const LENT: [u8; MOST_BYTES + 5] = [165; MOST_BYTES + 5];
 
-pub(crate) fn answer_file(file: &[u8]) -> Result<Answer, Wrong> {
-    let tower = read(file)?;
+// The tower is written into so many lent bytes.
+fn answer_in(tower: &Tower, room: usize, digest: Option<u64>) -> Answer
+    requires { room ≤ 4005 }
+{
     let mut lent = LENT;
-    let lent = &mut lent[..file_length(&tower).min(MOST_BYTES) + 5];
-    let written = write(&tower, lent);
-    Ok(Answer {
+    let lent = &mut lent[..room];
+    let written = write(tower, lent);
+    Answer {
         written,
-        tower: Some(tower_digest(&tower)),
+        tower: digest,
         lent: digest_of(lent),
-    })
+    }
 }
 
-// The file's tower is written into so many lent bytes.
+pub(crate) fn answer_file(file: &[u8]) -> Result<Answer, Wrong> {
+    let tower = read(file)?;
+    let room = file_length(&tower).min(MOST_BYTES) + 5;
+    Ok(answer_in(&tower, room, Some(tower_digest(&tower))))
+}
+
 pub(crate) fn answer_room(file: &[u8], room: usize) -> Result<Answer, Wrong>
     requires { room ≤ 4000 }
 {
-    let tower = read(file)?;
-    let mut lent = LENT;
-    let lent = &mut lent[..room];
-    let written = write(&tower, lent);
-    Ok(Answer {
-        written,
-        tower: None,
-        lent: digest_of(lent),
-    })
+    Ok(answer_in(&read(file)?, room, None))
 }

@@ -56,7 +56,9 @@ fn answer_all(rt: &impl Print, text: &[u8]) -> io::Result<()> {
 
 fn main(rt: HostRuntime) -> io::Result<()> {
     let mut text = Vec::new(rt.alloc());
-    rt.stdin().take(500_001).read_to_end(&mut text)?;
+    rt.stdin()
+        .take(MOST_INPUT as u64 + 1)
+        .read_to_end(&mut text)?;
     if MOST_INPUT < text.len() {
         return println!(rt; "error: the input is too long");
     }
