@@ -1,13 +1,12 @@
 // Digests of towers.
 ghost use Rattle.std.specs.Prelude.{◌≡◌, ℕ, List, [], ◌∷◌};
 ghost use Rattle.model.specs.Lists.{joined};
-ghost use Rattle.model.specs.Bytes.{kind_of};
 ghost use Rattle.model.specs.Tower.{section_of, tower_of};
 ghost use Rattle.lines.specs.Digest.{start, digest};
 ghost use Rattle.file_cases.specs.Digest.{group_values, section_values, item_values, tower_values};
 
 use lines::digest::{START, mix};
-use model::{Group, Item, Member, Section, Tower};
+use model::{Group, Item, Section, Tower};
 
 // What a digest is of as numbers.
 trait Values {
@@ -37,22 +36,14 @@ impl Values for u64 {
     }
 }
 
-fn kind_of(member: Member) -> u64
-    ensures { result ≡ kind_of member }
-{
-    match member {
-        Member::Flat(_) => 0,
-        Member::Round(_) => 1,
-    }
-}
-
 impl Values for Group {
     ghost values = { group_values };
 
     fn mix_into(&self, d: u64) -> u64 {
+        let kind = u64::from(self.member.kind());
         let size = u64::from(self.member.size().0);
         let length = u64::from(self.length.0);
-        mix_each(d, &[kind_of(self.member), size, length])
+        mix_each(d, &[kind, size, length])
     }
 }
 

@@ -21,10 +21,10 @@ use crate::answers::{Answer, answer_file, answer_room};
 use crate::cases::{Kind, kind_of, numbers_in};
 use crate::files::{File, at_most, bytes_of, changed, longer};
 use crate::wrong::Wrong;
+use lines::input::read_within;
 use std::io;
-use std::io::Read;
 
-const MOST_INPUT: usize = 500_000;
+const MOST_INPUT: u32 = 500_000;
 
 // f makes its file the base.
 fn answer_line(line: &[u8], base: &mut File) -> Result<Answer, Wrong> {
@@ -55,12 +55,8 @@ fn answer_all(rt: &impl Print, text: &[u8]) -> io::Result<()> {
 }
 
 fn main(rt: HostRuntime) -> io::Result<()> {
-    let mut text = Vec::new(rt.alloc());
-    rt.stdin()
-        .take(MOST_INPUT as u64 + 1)
-        .read_to_end(&mut text)?;
-    if MOST_INPUT < text.len() {
+    let Some(text) = read_within(rt.stdin(), MOST_INPUT, rt.alloc())? else {
         return println!(rt; "error: the input is too long");
-    }
+    };
     answer_all(&rt, &text)
 }

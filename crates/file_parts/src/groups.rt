@@ -1,8 +1,8 @@
 // The member groups of a section.
 ghost use Rattle.std.specs.Prelude.{◌≡◌};
 ghost use Rattle.model.specs.declared.Group.{Group};
-ghost use Rattle.model.specs.File.{member_of, read_group};
-ghost use Rattle.model.specs.Bytes.{kind_of, group_bytes};
+ghost use Rattle.model.specs.File.{read_group};
+ghost use Rattle.model.specs.Bytes.{group_bytes};
 
 use crate::parts::{FromBytes, ToBytes};
 use file_fields::Parsed;
@@ -10,25 +10,6 @@ use file_fields::fields::{read_ranged, write_field};
 use model::ranges::{MEMBER_KIND, MEMBER_LENGTH, MEMBER_SIZE};
 use model::{Group, Member, Refusal};
 use units::Length;
-
-fn member_of(kind: u32, size: Length) -> Member
-    ensures { result ≡ member_of kind size }
-{
-    if kind == 0 {
-        Member::Flat(size)
-    } else {
-        Member::Round(size)
-    }
-}
-
-fn kind_of(member: Member) -> u64
-    ensures { result ≡ kind_of member }
-{
-    match member {
-        Member::Flat(_) => 0,
-        Member::Round(_) => 1,
-    }
-}
 
 impl FromBytes for Group {
     ghost Value = { Group };
@@ -41,7 +22,7 @@ impl FromBytes for Group {
         let (kind, at) = read_ranged(file, 0, 1, MEMBER_KIND, Refusal::GroupField)?;
         let (size, at) = read_ranged(file, at, 2, MEMBER_SIZE, Refusal::GroupField)?;
         let (length, next) = read_ranged(file, at, 4, MEMBER_LENGTH, Refusal::GroupField)?;
-        let member = member_of(kind, Length(size));
+        let member = Member::of_kind(kind, Length(size));
         let length = Length(length);
         Ok((Group { member, length }, next))
     }
@@ -52,7 +33,7 @@ impl ToBytes for Group {
 
     #[tactic(auto, unfolding(model::specs::Bytes::bytes, model::specs::Bytes::group_bytes))]
     fn write(&self, out: &mut [u8]) -> usize {
-        let at = write_field(out, 1, kind_of(self.member));
+        let at = write_field(out, 1, u64::from(self.member.kind()));
         let at = at + write_field(&mut out[at..], 2, u64::from(self.member.size().0));
         at + write_field(&mut out[at..], 4, u64::from(self.length.0))
     }

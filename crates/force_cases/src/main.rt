@@ -13,16 +13,16 @@ use case_words::case_of;
 use case_words::faults::{groups_end, test_case};
 use force::section::LoadedSection;
 use force::{Load, LoadCase, Way};
+use lines::input::read_within;
 use lines::numbers::numbers_of;
 use model::Legs;
 use slots::items::item_sums;
 use std::io;
-use std::io::Read;
 
 // What a line holds at most: 8 numbers, those of 8 groups, the number of items and those of 64 items.
 const MOST_NUMBERS: usize = 8 + 3 * 8 + 1 + 6 * 64;
 
-const MOST_BYTES: usize = 500_000;
+const MOST_INPUT: u32 = 500_000;
 
 // The load on the case's section, its items' sum, and what decided the formula's force at full pressure.
 #[derive(Clone, Copy)]
@@ -104,10 +104,8 @@ fn answer_all(rt: &impl Print, text: &[u8]) -> io::Result<()> {
 }
 
 fn main(rt: HostRuntime) -> io::Result<()> {
-    let mut text = Vec::new(rt.alloc());
-    rt.stdin().take(500_001).read_to_end(&mut text)?;
-    if MOST_BYTES < text.len() {
+    let Some(text) = read_within(rt.stdin(), MOST_INPUT, rt.alloc())? else {
         return println!(rt; "error: the input is too long");
-    }
+    };
     answer_all(&rt, &text)
 }

@@ -4,3 +4,4 @@ pub mod Text
 pub mod Appends
 pub mod Hex
 pub mod Digest
+pub mod Input

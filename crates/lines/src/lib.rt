@@ -3,5 +3,6 @@
 
 pub mod digest;
 pub mod hex;
+pub mod input;
 pub mod numbers;
 pub mod text;

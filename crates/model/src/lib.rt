@@ -4,6 +4,8 @@
 
 ghost use Rattle.std.specs.Prelude.{◌≡◌, ◌^◌, ◌<◌};
 ghost use Rattle.model.specs.Areas.{size_of, solid};
+ghost use Rattle.model.specs.Bytes.{kind_of};
+ghost use Rattle.model.specs.File.{member_of};
 
 use arrayvec::ArrayVec;
 use units::{Area, Force, Length};
@@ -33,6 +35,26 @@ pub enum Member {
 }
 
 impl Member {
+    // Flat where the kind is 0, round for any other.
+    pub fn of_kind(kind: u32, size: Length) -> Self
+        ensures { result ≡ member_of kind size }
+    {
+        match kind {
+            0 => Member::Flat(size),
+            _ => Member::Round(size),
+        }
+    }
+
+    // 0 for flat, 1 for round.
+    pub fn kind(self) -> u32
+        ensures { result ≡ kind_of self }
+    {
+        match self {
+            Member::Flat(_) => 0,
+            Member::Round(_) => 1,
+        }
+    }
+
     // The width or the diameter.
     pub fn size(self) -> Length
         ensures { result ≡ size_of self }

@@ -4,10 +4,12 @@
 
 use handler::respond::answer;
 use handler::{Buffers, FILE, NUMBERS, ROWS, TEXT};
+use lines::input::read_within;
 use service::changes::fresh;
 use slots::EMPTY;
 use std::io;
-use std::io::Read;
+
+const MOST_INPUT: u32 = 100_000;
 
 fn print_line(rt: &impl Print, line: &[u8]) -> io::Result<()> {
     rt.write_all(line)?;
@@ -30,13 +32,10 @@ fn answer_all(rt: &impl Print, text: &[u8], buffers: &mut Buffers<'_>) -> io::Re
     Ok(())
 }
 
-// The input may have 100 000 bytes.
 fn main(rt: HostRuntime) -> io::Result<()> {
-    let mut text = Vec::new(rt.alloc());
-    rt.stdin().take(100_001).read_to_end(&mut text)?;
-    if 100_000 < text.len() {
-        return rt.write_all(b"error: the input is too long\n");
-    }
+    let Some(text) = read_within(rt.stdin(), MOST_INPUT, rt.alloc())? else {
+        return println!(rt; "error: the input is too long");
+    };
     let mut buffers = Buffers {
         numbers: &mut [0; NUMBERS],
         rows: &mut [0; ROWS],

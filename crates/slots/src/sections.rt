@@ -40,14 +40,8 @@ pub fn least() -> Section
 fn group_of(x: u32) -> Group
     ensures { result ≡ group_in x }
 {
-    let size = Length(x / 2 % 1024);
-    let member = if x % 2 == 0 {
-        Member::Flat(size)
-    } else {
-        Member::Round(size)
-    };
     Group {
-        member,
+        member: Member::of_kind(x % 2, Length(x / 2 % 1024)),
         length: Length(x / 2048),
     }
 }
@@ -60,11 +54,7 @@ fn group_number(group: Group) -> u32
     if !group_fits(group) {
         return 0;
     }
-    let kind = match group.member {
-        Member::Flat(_) => 0,
-        Member::Round(_) => 1,
-    };
-    kind + 2 * group.member.size().0 + 2048 * group.length.0
+    group.member.kind() + 2 * group.member.size().0 + 2048 * group.length.0
 }
 
 fn groups_in(numbers: &[u32]) -> ArrayVec<Group, 8>

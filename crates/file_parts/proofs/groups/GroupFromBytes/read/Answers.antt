@@ -22,5 +22,5 @@ unfolding read_group
 returns c =
     let long = c.in_ok-length.ensures.says in
     record {
-      says = (rw (c.in_ok-kind.ensures.says.0, c.in_ok-size.ensures.says.0, long.0, c.member_of-member.ensures) refl, long.1);
+      says = (rw (c.in_ok-kind.ensures.says.0, c.in_ok-size.ensures.says.0, long.0, c.of_kind-member.ensures) refl, long.1);
     }
