@@ -80,7 +80,7 @@ pub struct Group {
 }
 
 // A section: mean width b, height h, shear allowance (0: none is stated), and its groups.
-#[derive(Debug, PartialEq, Eq, Default, Drop)]
+#[derive(Clone, Debug, PartialEq, Eq, Default, Drop)]
 pub struct Section {
     pub width: Length,
     pub height: Length,
@@ -102,7 +102,7 @@ pub struct Item {
 }
 
 // Legs, the sections from the top, and the items in hanging order.
-#[derive(Debug, PartialEq, Eq, Drop)]
+#[derive(Clone, Debug, PartialEq, Eq, Drop)]
 pub struct Tower {
     pub legs: Legs,
     pub sections: ArrayVec<Section, 32>,
@@ -110,7 +110,7 @@ pub struct Tower {
 }
 
 // The wind that a call sets: direction, ice class, structure factor in thousandths, and a pressure for each section.
-#[derive(Clone, Copy)]
+#[derive(Clone, Copy, Debug, PartialEq, Eq)]
 pub struct Wind<'a> {
     pub direction: u32,
     pub ice: u32,
