@@ -3,6 +3,8 @@ ghost use Rattle.std.specs.Prelude.{◌≡◌, length};
 ghost use Rattle.lines.specs.Copied.{result_copied};
 ghost use Rattle.lines.specs.Numbers.{numbers_in, digit_value};
 
+use std::fmt;
+
 // What is wrong with a line first: it is no run of numbers with single spaces, one has 10^19 or more, or there is no
 // room for so many.
 #[derive(Clone, Copy, Debug, PartialEq, Eq)]
@@ -10,6 +12,16 @@ pub enum NumbersError {
     Bad,
     Large,
     Many,
+}
+
+impl fmt::Display for NumbersError {
+    fn fmt<W: fmt::Write>(&self, f: &mut fmt::Formatter<W>) -> fmt::Result {
+        f.write_str(match self {
+            NumbersError::Bad => "not decimal numbers with single spaces between them",
+            NumbersError::Large => "a number is too large",
+            NumbersError::Many => "there are too many numbers",
+        })
+    }
 }
 
 // From here on a number has 10^19 or more with one digit more.
