@@ -50,7 +50,7 @@ impl CallKind {
 }
 
 // The arguments of a wind.
-#[derive(Debug, PartialEq, Eq, Drop)]
+#[derive(Clone, Debug, PartialEq, Eq, Drop)]
 pub struct DrawnWind {
     pub direction: u32,
     pub ice: u32,
@@ -138,7 +138,7 @@ fn pressure(draws: Draws) -> u16 {
         let (_, limit) = FLOW_LIMITS[key.index(1, FLOW_LIMITS.len())];
         limit.wrapping_add(key.within(2, 0..=1) as u16)
     } else {
-        (draws.field(3, PRESSURES) & 0xffff) as u16
+        draws.short(3, PRESSURES)
     }
 }
 

@@ -32,6 +32,13 @@ impl Draws {
         self.or_wrong(place, drawn, range)
     }
 
+    // A field's low 16 bits, which are all of its width.
+    pub(crate) fn short(self, place: u64, range: Range) -> u16
+        requires { range.low ≤ range.high }
+    {
+        (self.field(place, range) & 0xffff) as u16
+    }
+
     // This number, or one outside the range.
     pub(crate) fn or_wrong(self, place: u64, number: u32, range: Range) -> u32 {
         if self.is_wrong(place) {

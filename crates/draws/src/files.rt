@@ -4,7 +4,7 @@ ghost use Rattle.std.specs.Prelude.{◌≤◌};
 use arrayvec::ArrayVec;
 
 // A tower file, sound or damaged. That of the largest tower has 2915 bytes.
-#[derive(Debug, PartialEq, Eq, Drop)]
+#[derive(Clone, Debug, PartialEq, Eq, Drop)]
 pub struct File {
     pub bytes: ArrayVec<u8, 3000>,
 }

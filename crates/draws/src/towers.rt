@@ -49,9 +49,9 @@ pub(crate) fn item_of(draws: Draws, number: u16, sections: u64) -> Item
         section: (draws.field(2, on) & 0xff) as u8,
         width: Length(draws.field(3, ITEM_WIDTH)),
         length: Length(draws.field(4, ITEM_LENGTH)),
-        bare: (draws.field(5, COEFFICIENTS) & 0xffff) as u16,
-        iced: (draws.field(6, COEFFICIENTS) & 0xffff) as u16,
-        position: (draws.field(7, POSITION_FACTOR) & 0xffff) as u16,
+        bare: draws.short(5, COEFFICIENTS),
+        iced: draws.short(6, COEFFICIENTS),
+        position: draws.short(7, POSITION_FACTOR),
     }
 }
 
@@ -107,27 +107,52 @@ fn sound_file(key: Key, extent: Extent) -> File {
     file_of(draws, extent)
 }
 
-// A file with wrong fields, a byte that is any, bytes behind its end, or none there.
+// What is wrong with a file: a byte that is any, bytes behind its end, none from some place on, or fields.
+#[derive(Clone, Copy, Debug, PartialEq, Eq)]
+enum Damage {
+    Byte,
+    Behind,
+    Cut,
+    Fields { odds: u64 },
+}
+
+impl Damage {
+    fn drawn(key: Key) -> Damage {
+        match key.within(2, 0..=7) {
+            0 => Damage::Byte,
+            1 => Damage::Behind,
+            2 => Damage::Cut,
+            _ => Damage::Fields {
+                odds: u64::from(key.within(3, 8..=64)),
+            },
+        }
+    }
+
+    // The odds of a wrong field.
+    fn odds(self) -> Option<u64> {
+        match self {
+            Damage::Fields { odds } => Some(odds),
+            _ => None,
+        }
+    }
+}
+
 fn damaged_file(key: Key, extent: Extent) -> File {
-    let kind = key.within(2, 0..=7);
-    let odds = match kind {
-        0..=2 => None,
-        _ => Some(u64::from(key.within(3, 8..=64))),
-    };
+    let damage = Damage::drawn(key);
     let draws = Draws {
         key: key.part(0),
-        odds,
+        odds: damage.odds(),
     };
     let mut file = file_of(draws, extent);
     if file.bytes.is_empty() {
         return file;
     }
     let any = key.index(4, file.bytes.len());
-    match kind {
-        0 => file.bytes[any] = key.within(5, 0..=255) as u8,
-        1 => file.put(key.within(5, 1..=3) as usize, any as u32),
-        2 => file.bytes.truncate(any),
-        _ => {}
+    match damage {
+        Damage::Byte => file.bytes[any] = key.within(5, 0..=255) as u8,
+        Damage::Behind => file.put(key.within(5, 1..=3) as usize, any as u32),
+        Damage::Cut => file.bytes.truncate(any),
+        Damage::Fields { .. } => {}
     }
     file
 }
