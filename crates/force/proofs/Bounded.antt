@@ -9,7 +9,8 @@ use Rattle.exact.specs.Surd.{number}
 use Rattle.model.specs.declared.Legs.{Legs}
 use Rattle.model.specs.declared.Areas.{Areas}
 use Rattle.model.specs.Areas.{solid}
-use Rattle.model.specs.WholeForm.{root_num, whole_form}
+use Rattle.model.specs.Force.{face_force}
+use Rattle.model.specs.WholeForm.{gross_of, incidence_den, incidence_num, face_den, face_num, root_num, whole_form}
 use Rattle.std.specs.Prelude.{Option, None, Some, IfSome, IsSomeAnd}
 use Rattle.rounding.specs.Bounds.{Between, Decides}
 use Rattle.rounding.specs.declared.bounds.Bounds.{Bounds}
@@ -19,7 +20,7 @@ use Rattle.force.specs.declared.prepared.PreparedFace.{PreparedFace}
 use Rattle.force.specs.declared.prepared.Loading.{Loading}
 use Rattle.force.specs.Prepared.{root_square}
 use Rattle.force.specs.FaceForce.{force_on, LinearOf}
-use Rattle.force.proofs.Quotient.{form, num-is, radicand-of, den-is, den-above, least-exact}
+use Rattle.force.proofs.Quotient.{form, num-is, radicand-of, den-is, den-above, whole-exact}
 
 -- no supercritical member: there is no root
 pub rootless : (l : Legs) (a : Areas) (e sum : ℕ) → a.supercritical.0 ≡ 0 → Between sum (root_square l a e) sum sum
@@ -64,42 +65,57 @@ module _ (k i sum c d p u R low high f : ℕ) (b : Between sum (p * u * (p * u) 
       (low-square k i less p u R (mul-le-mul_left (k * i * (k * i)) b.below)) (high-square k i more p u R (mul-le-mul_left (k * i * (k * i)) b.above))
       (with_root k i high less sum c d _ eh t.enough) (without-root k i low more sum c d _ el (t.short z))
 
-module _ (p : PreparedFace) (w : Loading) (hs : 0 < (solid p.face.areas).0) where
-  pub divisor-above : 0 < p.divisor
+-- of a section's numbers
+module _ (l : Legs) (k factor q : ℕ) (a : Areas) (e items : ℕ) (hs : 0 < (solid a).0) where
+  -- the face's sum and the divisor that code works out
+  module _ (sum d : ℕ) (es : sum ≡ face_num l a e * 1_000_000) (ed : d ≡ incidence_den l (solid a).0 e * face_den l ((solid a).0 + e)) where
+    pub divisor-above : 0 < d
+    unfolding whole_form
+    divisor-above = pos-of-mul d 1_000_000_000_000_000 (rw (← ed) at (den-above l k factor q a e items hs))
+      where
+        pos-of-mul : (x y : ℕ) → 0 < x * y → 0 < x
+        pos-of-mul x y h = ⊎_elim (λ (z : x ≡ 0). absurd (let w : x * y ≡ 0 * y = ap (λ (n : ℕ). n * y) z in omega arith)) (λ (g : 0 < x). g) (eq-zero-or-pos x)
+
+    pub bounded-exact : (factored inc low high f : ℕ) → factored ≡ q * factor → inc ≡ incidence_num l k a e
+        → Between sum (root_square l a e) low high → Decides factored inc low high d items f
+        → Least (only (face_force l k factor q (gross_of a e) a items)) f
+    unfolding root_square
+    bounded-exact factored inc low high f el ei b t =
+        let g : _ = least-bounded factored inc sum items d a.supercritical.0 ((solid a).0 + e) (root_num l (solid a).0 e) low high f b t divisor-above in
+        let n : _ = num-is l k factor q a e items factored inc sum d el ei es ed in
+        let m : _ = radicand-of l k factor q a e items factored inc el ei in
+        let w : _ = den-is l k factor q a e items d ed in
+        whole-exact l k factor q a e items hs f (rw (n, m, w) at g)
+
+  -- no pressure, no force
+  pub none-exact : q * factor ≡ 0 → Least (only (face_force l k factor q (gross_of a e) a items)) 0
   unfolding whole_form
-  divisor-above = pos-of-mul p.divisor 1_000_000_000_000_000 (rw (← p.divisor_is) at (den-above p w hs))
-    where
-      pos-of-mul : (x y : ℕ) → 0 < x * y → 0 < x
-      pos-of-mul x y h = ⊎_elim (λ (z : x ≡ 0). absurd (let w : x * y ≡ 0 * y = ap (λ (n : ℕ). n * y) z in omega arith)) (λ (g : 0 < x). g) (eq-zero-or-pos x)
+  none-exact z = whole-exact l k factor q a e items hs 0 (none-missing (form l k factor q a e items) (den-above l k factor q a e items hs) (rw z (omega arith)))
+
+-- of a prepared face
+module _ (p : PreparedFace) (w : Loading) (hs : 0 < (solid p.face.areas).0) where
+  pub prepared-above : 0 < p.divisor
+  prepared-above = divisor-above p.face.legs w.direction w.factor w.pressure p.face.areas p.face.gap.0 w.items hs p.sum p.divisor p.sum_is p.divisor_is
 
   module _ (x : Linear) (g : LinearOf p w x) (f : ℕ) where
-    pub bounded-exact : (low high : ℕ) → Between p.sum (root_square p.legs p.face.areas p.face.gap.0) low high
+    exact-between : (low high : ℕ) → Between p.sum (root_square p.face.legs p.face.areas p.face.gap.0) low high
         → Decides x.factor x.slope low high x.divisor x.offset f → Least (only (force_on p w)) f
-    unfolding root_square
-    bounded-exact low high b t =
-        let above : 0 < x.divisor = rw g.divisor divisor-above in
-        let h : _ =
-        least-bounded x.factor x.slope p.sum x.offset x.divisor p.face.areas.supercritical.0 ((solid p.face.areas).0 + p.face.gap.0)
-        (root_num p.legs (solid p.face.areas).0 p.face.gap.0) low high f b t above in
-        let n : _ = num-is p w x g in
-        let m : _ = radicand-of p w x g in
-        let d : _ = den-is p w x g in
-        least-exact p w hs f (rw (n, m, d) at h)
+    exact-between low high b t =
+        bounded-exact p.face.legs w.direction w.factor w.pressure p.face.areas p.face.gap.0 w.items hs p.sum p.divisor p.sum_is p.divisor_is
+        x.factor x.slope low high f g.factor g.slope b (rw (g.divisor, g.offset) at t)
 
     -- by the bounds that are known
     pub by-bounds : IsSomeAnd p.less_root (λ b. Decides x.factor x.slope b.low b.high x.divisor x.offset f) → Least (only (force_on p w)) f
     by-bounds t = go p.less_root p.bounded t
       where
-        go : (o : Option (Bounds ℕ)) → IfSome o (λ b. Between p.sum (root_square p.legs p.face.areas p.face.gap.0) b.low b.high)
+        go : (o : Option (Bounds ℕ)) → IfSome o (λ b. Between p.sum (root_square p.face.legs p.face.areas p.face.gap.0) b.low b.high)
             → IsSomeAnd o (λ b. Decides x.factor x.slope b.low b.high x.divisor x.offset f) → Least (only (force_on p w)) f
         go None b t = absurd t
-        go (Some r) b t = bounded-exact r.low r.high b t
+        go (Some r) b t = exact-between r.low r.high b t
 
     -- at the sum, where there is no root
     pub by-sum : p.face.areas.supercritical.0 ≡ 0 → Decides x.factor x.slope p.sum p.sum x.divisor x.offset f → Least (only (force_on p w)) f
-    by-sum z t = bounded-exact p.sum p.sum (rootless p.legs p.face.areas p.face.gap.0 p.sum z) t
+    by-sum z t = exact-between p.sum p.sum (rootless p.face.legs p.face.areas p.face.gap.0 p.sum z) t
 
-  -- no pressure, no force
   pub no-pressure : w.pressure * w.factor ≡ 0 → Least (only (force_on p w)) 0
-  unfolding whole_form
-  no-pressure z = least-exact p w hs 0 (none-missing (form p w) (den-above p w hs) (rw z (omega arith)))
+  no-pressure = none-exact p.face.legs w.direction w.factor w.pressure p.face.areas p.face.gap.0 w.items hs

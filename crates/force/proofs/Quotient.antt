@@ -1,5 +1,5 @@
 -- The exact force as (n − √m) / d of wide numbers.
-use mathlib.Core.Path.{◌≡◌, refl}
+use mathlib.Core.Path.{◌≡◌, refl, ◌∙◌}
 use Prim.Native.Nat.{ℕ, ◌+◌, ◌*◌, ◌^◌, ◌≤◌, ◌<◌}
 use mathlib.Core.Bool.{true}
 use native.Mathlib.Omega.{arith}
@@ -13,9 +13,10 @@ use Rattle.exact.proofs.Greatest.{least-same}
 use Rattle.exact.proofs.Surds.{number-defined}
 use Rattle.model.specs.declared.Legs.{Legs}
 use Rattle.model.specs.declared.Legs.TheVariants.{Three, Four}
+use Rattle.model.specs.declared.Areas.{Areas}
 use Rattle.model.specs.Areas.{solid, largest_gross}
-use Rattle.model.specs.Force.{largest_force}
-use Rattle.model.specs.WholeForm.{gross_of, incidence_den, face_den, root_num, whole_form}
+use Rattle.model.specs.Force.{largest_items, face_force, largest_force}
+use Rattle.model.specs.WholeForm.{gross_of, incidence_den, incidence_num, face_den, face_num, root_num, whole_form}
 use Rattle.model.proofs.WholeForm.{face-whole}
 use Rattle.model.proofs.FaceForce.{den-positive, face-defined}
 use Rattle.model.proofs.Bounds.{num-bound}
@@ -58,66 +59,92 @@ unfolding face_den
 face-den-bound Four U h = omega (arith, square-bound U U h h)
 face-den-bound Three U h = omega (arith, square-bound U U h h)
 
-module _ (p : PreparedFace) (w : Loading) where
+module _ (l : Legs) (k factor q : ℕ) (a : Areas) (e items : ℕ) where
   abbrev pub form : exact.Surd
-  form = whole_form p.legs w.direction w.factor w.pressure p.face.areas p.face.gap.0 w.items
+  form = whole_form l k factor q a e items
 
-  bound : form.num ≤ largest_force * form.den
-  bound = num-bound p.legs w.direction w.factor w.pressure p.face.areas p.face.gap.0 w.items p.face.small w.pressure_small w.factor_small w.items_small
-
-  num-room : form.num < 2 ^ 256
+  pub num-is : (factored inc face h : ℕ) → factored ≡ q * factor → inc ≡ incidence_num l k a e → face ≡ face_num l a e * 1_000_000
+      → h ≡ incidence_den l (solid a).0 e * face_den l ((solid a).0 + e)
+      → factored * (inc * face + items * h) ≡ form.num
   unfolding whole_form
-  num-room =
-      let S : ℕ = (solid p.face.areas).0 in
-      let e : ℕ = p.face.gap.0 in
-      let h : incidence_den p.legs S e * face_den p.legs (S + e) ≤ 2 ^ 63 * 2 ^ 67 =
-      mul-le-mul {n₂ = 2 ^ 63} {m₂ = 2 ^ 67} (incidence-den-bound p.legs S e p.face.small) (face-den-bound p.legs (S + e) p.face.small) in
-      let d : incidence_den p.legs S e * face_den p.legs (S + e) * 1_000_000_000_000_000 ≤ 2 ^ 63 * 2 ^ 67 * 1_000_000_000_000_000 =
+  num-is factored inc face h el ei ef eh = rw (el, ei, ef, eh) (omega arith)
+
+  pub num-room : (solid a).0 + e ≤ largest_gross → q ≤ 5000 → factor ≤ 2000 → items ≤ largest_items → form.num < 2 ^ 256
+  unfolding whole_form
+  num-room hu hq hf hi =
+      let h : incidence_den l (solid a).0 e * face_den l ((solid a).0 + e) ≤ 2 ^ 63 * 2 ^ 67 =
+      mul-le-mul {n₂ = 2 ^ 63} {m₂ = 2 ^ 67} (incidence-den-bound l (solid a).0 e hu) (face-den-bound l ((solid a).0 + e) hu) in
+      let d : incidence_den l (solid a).0 e * face_den l ((solid a).0 + e) * 1_000_000_000_000_000 ≤ 2 ^ 63 * 2 ^ 67 * 1_000_000_000_000_000 =
       mul-le-mul {n₂ = 2 ^ 63 * 2 ^ 67} {m₂ = 1_000_000_000_000_000} h (leb-true 1_000_000_000_000_000 1_000_000_000_000_000 refl) in
-      lt_of_le_of_lt (le_trans bound (mul-le-mul_left largest_force d)) (leb-true (largest_force * (2 ^ 63 * 2 ^ 67 * 1_000_000_000_000_000) + 1) (2 ^ 256) refl)
+      lt_of_le_of_lt (le_trans (num-bound l k factor q a e items hu hq hf hi) (mul-le-mul_left largest_force d))
+      (leb-true (largest_force * (2 ^ 63 * 2 ^ 67 * 1_000_000_000_000_000) + 1) (2 ^ 256) refl)
 
-  -- by the linear function that code forms, at the face's sum
-  module _ (x : Linear) (g : LinearOf p w x) where
-    pub num-is : x.factor * (x.slope * p.sum + x.offset * x.divisor) ≡ form.num
-    unfolding whole_form
-    num-is = rw (g.factor, g.slope, g.offset, g.divisor, p.sum_is, p.divisor_is) (omega arith)
+  pub radicand-of : (factored inc : ℕ) → factored ≡ q * factor → inc ≡ incidence_num l k a e
+      → factored * inc * 1_000_000 * a.supercritical.0 * ((solid a).0 + e) * (factored * inc * 1_000_000 * a.supercritical.0 * ((solid a).0 + e)) * root_num l (solid a).0 e
+      ≡ form.radicand
+  unfolding whole_form
+  radicand-of factored inc el ei = rw (el, ei)
 
-    pub num-fits : x.factor * (x.slope * p.sum + x.offset * x.divisor) < 2 ^ 256
-    num-fits = rw num-is num-room
-
-    pub radicand-of : x.factor * x.slope * 1_000_000 * p.face.areas.supercritical.0 * ((solid p.face.areas).0 + p.face.gap.0)
-        * (x.factor * x.slope * 1_000_000 * p.face.areas.supercritical.0 * ((solid p.face.areas).0 + p.face.gap.0)) * root_num p.legs (solid p.face.areas).0 p.face.gap.0
-        ≡ form.radicand
-    unfolding whole_form
-    radicand-of = rw (g.factor, g.slope)
-
-    pub den-is : x.divisor * 1_000_000_000_000_000 ≡ form.den
-    unfolding whole_form
-    den-is = rw (g.divisor, p.divisor_is)
+  pub den-is : (h : ℕ) → h ≡ incidence_den l (solid a).0 e * face_den l ((solid a).0 + e)
+      → h * 1_000_000_000_000_000 ≡ form.den
+  unfolding whole_form
+  den-is h eh = rw eh
 
   -- of a face with members
-  module _ (hs : 0 < (solid p.face.areas).0) where
+  module _ (hs : 0 < (solid a).0) where
     pub den-above : 0 < form.den
-    den-above = den-positive p.legs w.direction w.factor w.pressure p.face.areas p.face.gap.0 w.items hs
+    den-above = den-positive l k factor q a e items hs
 
-    pub least-exact : (f : ℕ) → Least (only (number form)) f → Least (only (force_on p w)) f
-    least-exact f h =
-        least-same (number-defined _ den-above) (face-defined p.legs w.direction w.factor w.pressure (gross_of p.face.areas p.face.gap.0) p.face.areas w.items (omega arith) hs)
-        (same-sym (face-whole p.legs w.direction w.factor w.pressure p.face.areas p.face.gap.0 w.items)) h
+    pub whole-exact : (f : ℕ) → Least (only (number form)) f → Least (only (face_force l k factor q (gross_of a e) a items)) f
+    whole-exact f h =
+        least-same (number-defined _ den-above) (face-defined l k factor q (gross_of a e) a items (omega arith) hs)
+        (same-sym (face-whole l k factor q a e items)) h
 
-    -- by wide numbers
-    module _ (x : Linear) (g : LinearOf p w x) (v : Surd) (en : value256 v.num ≡ x.factor * (x.slope * p.sum + x.offset * x.divisor))
-        (em : value512 v.radicand
-        ≡ x.factor * x.slope * 1_000_000 * p.face.areas.supercritical.0 * ((solid p.face.areas).0 + p.face.gap.0)
-        * (x.factor * x.slope * 1_000_000 * p.face.areas.supercritical.0 * ((solid p.face.areas).0 + p.face.gap.0)) * root_num p.legs (solid p.face.areas).0 p.face.gap.0)
-        (ed : value256 v.den ≡ x.divisor * 1_000_000_000_000_000) where
+    -- wide numbers with these values
+    module _ (v : Surd) (en : value256 v.num ≡ form.num) (em : value512 v.radicand ≡ form.radicand) (ed : value256 v.den ≡ form.den) where
       surd-is : surd_of v ≡ form
       unfolding surd_of
-      surd-is = rw (en, num-is x g, em, radicand-of x g, ed, den-is x g)
+      surd-is = rw (en, em, ed)
 
-      -- what `ceiling` asks and answers
-      pub ceiling-asks : (0 < value256 v.den) × (reaches (surd_of v) largest_force ≡ true)
-      ceiling-asks = (rw (ed, den-is x g) den-above, rw surd-is (whole-reaches form largest_force bound))
+      pub den-known : 0 < value256 v.den
+      den-known = rw ed den-above
 
-      pub ceiling-gives : (f : ℕ) → Least (only (number (surd_of v))) f → Least (only (force_on p w)) f
-      ceiling-gives f h = least-exact f (rw surd-is at h)
+      pub most-reaches : (solid a).0 + e ≤ largest_gross → q ≤ 5000 → factor ≤ 2000 → items ≤ largest_items → reaches (surd_of v) largest_force ≡ true
+      most-reaches hu hq hf hi = rw surd-is (whole-reaches form largest_force (num-bound l k factor q a e items hu hq hf hi))
+
+      pub least-exact : (f : ℕ) → Least (only (number (surd_of v))) f → Least (only (face_force l k factor q (gross_of a e) a items)) f
+      least-exact f h = whole-exact f (rw surd-is at h)
+
+-- the linear function and the wide numbers that code forms of a prepared face
+module _ (p : PreparedFace) (w : Loading) (x : Linear) (g : LinearOf p w x) where
+  abbrev form-on : exact.Surd
+  form-on = form p.face.legs w.direction w.factor w.pressure p.face.areas p.face.gap.0 w.items
+
+  numerator-is : x.factor * (x.slope * p.sum + x.offset * x.divisor) ≡ form-on.num
+  numerator-is = rw g.offset (num-is p.face.legs w.direction w.factor w.pressure p.face.areas p.face.gap.0 w.items _ _ _ _ g.factor g.slope p.sum_is (g.divisor ∙ p.divisor_is))
+
+  pub num-fits : x.factor * (x.slope * p.sum + x.offset * x.divisor) < 2 ^ 256
+  num-fits = rw numerator-is (num-room p.face.legs w.direction w.factor w.pressure p.face.areas p.face.gap.0 w.items p.face.small w.pressure_small w.factor_small w.items_small)
+
+  module _ (hs : 0 < (solid p.face.areas).0) (v : Surd) (en : value256 v.num ≡ x.factor * (x.slope * p.sum + x.offset * x.divisor))
+      (em : value512 v.radicand
+      ≡ x.factor * x.slope * 1_000_000 * p.face.areas.supercritical.0 * ((solid p.face.areas).0 + p.face.gap.0)
+      * (x.factor * x.slope * 1_000_000 * p.face.areas.supercritical.0 * ((solid p.face.areas).0 + p.face.gap.0)) * root_num p.face.legs (solid p.face.areas).0 p.face.gap.0)
+      (ed : value256 v.den ≡ x.divisor * 1_000_000_000_000_000) where
+    radicand-on : value512 v.radicand ≡ form-on.radicand
+    radicand-on = em ∙ radicand-of p.face.legs w.direction w.factor w.pressure p.face.areas p.face.gap.0 w.items _ _ g.factor g.slope
+
+    den-on : value256 v.den ≡ form-on.den
+    den-on = ed ∙ den-is p.face.legs w.direction w.factor w.pressure p.face.areas p.face.gap.0 w.items _ (g.divisor ∙ p.divisor_is)
+
+    -- what `ceiling` asks and answers
+    pub ceiling-asks : (0 < value256 v.den) × (reaches (surd_of v) largest_force ≡ true)
+    ceiling-asks = (
+      den-known p.face.legs w.direction w.factor w.pressure p.face.areas p.face.gap.0 w.items hs v (en ∙ numerator-is) radicand-on den-on,
+      most-reaches p.face.legs w.direction w.factor w.pressure p.face.areas p.face.gap.0 w.items hs v (en ∙ numerator-is) radicand-on den-on
+          p.face.small w.pressure_small w.factor_small w.items_small,
+    )
+
+    pub ceiling-gives : (f : ℕ) → Least (only (number (surd_of v))) f → Least (only (force_on p w)) f
+    ceiling-gives =
+        least-exact p.face.legs w.direction w.factor w.pressure p.face.areas p.face.gap.0 w.items hs v (en ∙ numerator-is) radicand-on den-on

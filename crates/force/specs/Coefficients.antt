@@ -1,5 +1,5 @@
 -- The numbers of a face that its coefficients make. s is A_S and e the open area A_u − A_S.
-use Rattle.std.specs.Prelude.{ℕ, ◌+◌, ◌*◌, ◌≤◌}
+use Rattle.std.specs.Prelude.{ℕ, ◌+◌, ◌*◌}
 use Rattle.model.specs.declared.Areas.{Areas}
 use Rattle.model.specs.Areas.{solid}
 use Rattle.force.specs.declared.coefficients.Quadratic.{Quadratic}
@@ -18,14 +18,3 @@ sum_by c a e =
     c.flat_factor * quadratic_at c.flat s e * a.flat.0
     + c.subcritical_factor * quadratic_at c.subcritical s e * a.subcritical.0
     + c.supercritical * ((s + e) * (s + e)) * a.supercritical.0
-
--- so small that a face's numbers fit
-pub record Small (c : Coefficients) : Type 0 where
-  pub flat_factor : c.flat_factor ≤ 9500
-  pub flat : (c.flat.a ≤ 403) × (c.flat.b ≤ 403) × (c.flat.c ≤ 403)
-  pub subcritical_factor : c.subcritical_factor ≤ 9500
-  pub subcritical : (c.subcritical.a ≤ 403) × (c.subcritical.b ≤ 403) × (c.subcritical.c ≤ 403)
-  pub supercritical : c.supercritical ≤ 9500
-  pub root_factor : c.root_factor ≤ 50_000
-  pub root_solid : c.root_solid ≤ 9500
-  pub root_open : c.root_open ≤ 9500

@@ -2,7 +2,6 @@
 // e the open area A_u − A_S.
 ghost use Rattle.std.specs.Prelude.{◌≡◌, ◌+◌, ◌*◌, ◌^◌, ◌<◌, ◌≤◌};
 ghost use Rattle.model.specs.Areas.{solid, largest_gross};
-ghost use Rattle.force.specs.Coefficients.{Small, quadratic_at, sum_by, root_by};
 
 use crate::face::{FaceAreas, Root};
 use units::Area;
@@ -13,6 +12,7 @@ pub(crate) struct Quadratic {
     pub a: u64,
     pub b: u64,
     pub c: u64,
+    ghost small: { (a ≤ 403) × (b ≤ 403) × (c ≤ 403) },
 }
 
 // flat_factor · flat and subcritical_factor · subcritical are c_f and c_c; supercritical · A_u² is 1.9; the number
@@ -27,6 +27,8 @@ pub(crate) struct Coefficients {
     pub root_factor: u64,
     pub root_solid: u64,
     pub root_open: u64,
+    ghost factors_small: { (flat_factor ≤ 9500) × (subcritical_factor ≤ 9500) × (supercritical ≤ 9500) },
+    ghost root_small: { (root_factor ≤ 50_000) × (root_solid ≤ 9500) × (root_open ≤ 9500) },
 }
 
 pub(crate) const THREE: Coefficients = Coefficients {
@@ -56,9 +58,10 @@ pub(crate) const FOUR: Coefficients = Coefficients {
 };
 
 impl Quadratic {
+    ghost use Rattle.force.specs.Coefficients.{quadratic_at};
+
     #[tactic(auto, unfolding(model::specs::Areas::solid))]
     fn at(self, face: FaceAreas) -> u64
-        requires { (self.a ≤ 403) × (self.b ≤ 403) × (self.c ≤ 403) }
         ensures { result ≡ quadratic_at self (solid face.areas).0 face.gap.0 }
     {
         let s = face.solid();
@@ -76,10 +79,11 @@ fn in_millionths(factor: u64, area: Area) -> u64
 }
 
 impl Coefficients {
+    ghost use Rattle.force.specs.Coefficients.{sum_by, root_by};
+
     // The face's sum in millionths of mm².
     #[tactic(auto, unfolding(model::specs::Areas::solid))]
     pub(crate) fn sum(self, face: FaceAreas) -> u128
-        requires { Small self }
         ensures { result ≡ sum_by self face.areas face.gap.0 * 1_000_000 }
     {
         let flat = in_millionths(self.flat_factor, face.areas.flat);
@@ -92,7 +96,6 @@ impl Coefficients {
     }
 
     pub(crate) fn root(self, face: FaceAreas) -> Root
-        requires { Small self }
         ensures { result.open * result.linear ≡ root_by self (solid face.areas).0 face.gap.0 }
     {
         Root {

@@ -7,9 +7,10 @@ use crate::coefficients::{FOUR, THREE};
 use model::{Areas, Legs};
 use units::Area;
 
-// The areas of a face, and its open area A_u − A_S.
+// The face of a section on so many legs: its areas, and its open area A_u − A_S.
 #[derive(Clone, Copy, Debug, PartialEq, Eq, Hash)]
 pub struct FaceAreas {
+    pub legs: Legs,
     pub areas: Areas,
     pub gap: Area,
     ghost small: { (solid areas).0 + gap.0 ≤ largest_gross },
@@ -47,10 +48,10 @@ impl FaceAreas {
 
     // c_f A_f + c_c A_c + 1.9 A_p, over `face_den` and in millionths of mm², as the items' sum is.
     #[tactic(auto, unfolding(model::specs::WholeForm::face_num, model::specs::WholeForm::flat_num, model::specs::WholeForm::subcritical_num, model::specs::WholeForm::supercritical_num))]
-    pub(crate) fn sum(self, legs: Legs) -> u128
-        ensures { result ≡ face_num legs self.areas self.gap.0 * 1_000_000 }
+    pub(crate) fn sum(self) -> u128
+        ensures { result ≡ face_num self.legs self.areas self.gap.0 * 1_000_000 }
     {
-        match legs {
+        match self.legs {
             Legs::Three => THREE.sum(self),
             Legs::Four => FOUR.sum(self),
         }
@@ -58,12 +59,12 @@ impl FaceAreas {
 
     // What Kθ and the coefficients together are divided by.
     #[tactic(auto, unfolding(model::specs::WholeForm::incidence_den, model::specs::WholeForm::face_den))]
-    pub(crate) fn divisor(self, legs: Legs) -> u128
-        ensures { result ≡ incidence_den legs (solid self.areas).0 self.gap.0 * face_den legs (gross_of self.areas self.gap.0).0 }
+    pub(crate) fn divisor(self) -> u128
+        ensures { result ≡ incidence_den self.legs (solid self.areas).0 self.gap.0 * face_den self.legs (gross_of self.areas self.gap.0).0 }
     {
         let s = self.solid();
         let u = self.gross();
-        match legs {
+        match self.legs {
             // 20 s · 5000 u², so shared out that both factors fit a word
             Legs::Three => (20 * s * u) as u128 * (5000 * u) as u128,
             Legs::Four => (400 * s * u) as u128 * (200 * (u * u)) as u128,
@@ -71,10 +72,10 @@ impl FaceAreas {
     }
 
     #[tactic(auto, unfolding(model::specs::WholeForm::root_num))]
-    pub(crate) fn root(self, legs: Legs) -> Root
-        ensures { result.open * result.linear ≡ root_num legs (solid self.areas).0 self.gap.0 }
+    pub(crate) fn root(self) -> Root
+        ensures { result.open * result.linear ≡ root_num self.legs (solid self.areas).0 self.gap.0 }
     {
-        match legs {
+        match self.legs {
             Legs::Three => THREE.root(self),
             Legs::Four => FOUR.root(self),
         }

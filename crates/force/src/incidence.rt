@@ -51,12 +51,12 @@ fn incidence_four(k: u32, f: u64, r: u64, e: u64) -> u64
 
 impl FaceAreas {
     #[tactic(auto, unfolding(model::specs::Areas::solid))]
-    pub(crate) fn incidence(self, legs: Legs, k: u32) -> u64
-        ensures { result ≡ incidence_num legs k self.areas self.gap.0 }
+    pub(crate) fn incidence(self, k: u32) -> u64
+        ensures { result ≡ incidence_num self.legs k self.areas self.gap.0 }
     {
         let f = self.areas.flat.0;
         let r = self.areas.subcritical.0 + self.areas.supercritical.0;
-        match legs {
+        match self.legs {
             Legs::Three => 20 * r + f * (20 - halves(k)),
             Legs::Four => incidence_four(k, f, r, self.gap.0),
         }

@@ -8,9 +8,8 @@ ghost use Rattle.wide.specs.Value.{value256, value512};
 
 use crate::face::FaceAreas;
 use crate::prepared::{Loading, PreparedFace};
-use model::Legs;
 use model::ranges::LARGEST_FORCE;
-use rounding::bounds::Linear;
+use rounding::bounds::{Linear, UNIT};
 use rounding::ceiling::Surd;
 use units::Force;
 use wide::{Digit, U256, U512};
@@ -26,14 +25,14 @@ fn numerator(x: Linear, g: u128) -> U256
 }
 
 // (factored · incidence · 10⁶ · A_p · A_u)² · root, and nothing to work out without supercritical members
-fn radicand(legs: Legs, face: FaceAreas, factored: u64, incidence: u64) -> U512
+fn radicand(face: FaceAreas, factored: u64, incidence: u64) -> U512
     requires { factored ≤ 10_000_000 }
-    ensures { let r = factored * incidence * 1_000_000 * face.areas.supercritical.0 * (gross_of face.areas face.gap.0).0 in value512 result ≡ r * r * root_num legs (solid face.areas).0 face.gap.0 }
+    ensures { let r = factored * incidence * 1_000_000 * face.areas.supercritical.0 * (gross_of face.areas face.gap.0).0 in value512 result ≡ r * r * root_num face.legs (solid face.areas).0 face.gap.0 }
 {
     if face.areas.supercritical.0 == 0 {
         return U512::zero();
     }
-    let root = face.root(legs);
+    let root = face.root();
     let r = (factored * 1_000_000) as u128 * face.root_weight() as u128;
     let x = r.widening_mul(incidence as u128 * root.open as u128);
     let y = r.widening_mul(incidence as u128 * root.linear as u128);
@@ -47,8 +46,8 @@ pub(crate) fn least_force(p: PreparedFace, w: Loading, x: Linear) -> Force
 {
     let surd = Surd {
         num: numerator(x, p.sum),
-        radicand: radicand(p.legs, p.face, x.factor, x.slope),
-        den: x.divisor.widening_mul(1_000_000_000_000_000),
+        radicand: radicand(p.face, x.factor, x.slope),
+        den: x.divisor.widening_mul(UNIT),
     };
     Force(surd.ceiling(LARGEST_FORCE))
 }

@@ -11,7 +11,6 @@ ghost use Rattle.force.specs.Prepared.{root_square};
 use crate::face::FaceAreas;
 use crate::least::least_force;
 use crate::{Decided, Way};
-use model::Legs;
 use rounding::bounds::{Bounds, Linear};
 use units::Force;
 
@@ -20,14 +19,13 @@ use units::Force;
 // these are known.
 #[derive(Clone, Copy, Debug, PartialEq, Eq, Hash)]
 pub struct PreparedFace {
-    pub legs: Legs,
     pub face: FaceAreas,
     pub sum: u128,
     pub divisor: u128,
     pub less_root: Option<Bounds<u128>>,
-    ghost sum_is: { sum ≡ face_num legs face.areas face.gap.0 * 1_000_000 },
-    ghost divisor_is: { divisor ≡ incidence_den legs (solid face.areas).0 face.gap.0 * face_den legs (gross_of face.areas face.gap.0).0 },
-    ghost bounded: { IfSome less_root (λ b. Between sum (root_square legs face.areas face.gap.0) b.low b.high) } by { Prim.hlevel props },
+    ghost sum_is: { sum ≡ face_num face.legs face.areas face.gap.0 * 1_000_000 },
+    ghost divisor_is: { divisor ≡ incidence_den face.legs (solid face.areas).0 face.gap.0 * face_den face.legs (gross_of face.areas face.gap.0).0 },
+    ghost bounded: { IfSome less_root (λ b. Between sum (root_square face.legs face.areas face.gap.0) b.low b.high) } by { Prim.hlevel props },
 }
 
 // What loads a face: the wind's direction and structure factor, the pressure on the section, and its items' sum.
@@ -44,8 +42,8 @@ pub struct Loading {
 
 impl FaceAreas {
     // Bounds of the face's sum less its root, where they are known.
-    fn less_root(self, legs: Legs, sum: u128) -> Option<Bounds<u128>>
-        ensures { IfSome result (λ b. Between sum (root_square legs self.areas self.gap.0) b.low b.high) }
+    fn less_root(self, sum: u128) -> Option<Bounds<u128>>
+        ensures { IfSome result (λ b. Between sum (root_square self.legs self.areas self.gap.0) b.low b.high) }
     {
         if self.areas.supercritical.0 == 0 {
             return Some(Bounds {
@@ -53,21 +51,20 @@ impl FaceAreas {
                 high: sum,
             });
         }
-        let root = self.root(legs);
+        let root = self.root();
         let square = root.open as u128 * root.linear as u128;
         rounding::bounds::less_root(sum, self.root_weight(), square)
     }
 
-    pub fn prepare(self, legs: Legs) -> PreparedFace
-        ensures { (result.legs ≡ legs) × (result.face ≡ self) }
+    pub fn prepare(self) -> PreparedFace
+        ensures { result.face ≡ self }
     {
-        let sum = self.sum(legs);
+        let sum = self.sum();
         PreparedFace {
-            legs,
             face: self,
             sum,
-            divisor: self.divisor(legs),
-            less_root: self.less_root(legs, sum),
+            divisor: self.divisor(),
+            less_root: self.less_root(sum),
         }
     }
 }
@@ -99,7 +96,7 @@ impl PreparedFace {
         }
         let x = Linear {
             factor: factored,
-            slope: self.face.incidence(self.legs, w.direction),
+            slope: self.face.incidence(w.direction),
             offset: w.items,
             divisor: self.divisor,
         };

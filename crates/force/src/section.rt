@@ -58,10 +58,11 @@ impl<'a> LoadedSection<'a> {
         ensures { Least (only (formula_in self.now pressure)) result.value.0 }
     {
         let face = FaceAreas {
+            legs: self.case.legs,
             areas,
             gap: self.gross() - areas.solid(),
         };
-        face.prepare(self.case.legs).force_in(Loading {
+        face.prepare().force_in(Loading {
             direction: self.case.direction,
             factor: self.case.factor,
             pressure,

@@ -13,10 +13,10 @@ radicand-requires c =
 pub ceiling-requires : goal.ceiling-requires
 unfolding value256
 ceiling-requires c =
-    ceiling-asks c.args.p c.args.w c.requires.0 c.args.x c.requires.1 _ c.numerator.ensures c.radicand.ensures c.widening_mul.ensures
+    ceiling-asks c.args.p c.args.w c.args.x c.requires.1 c.requires.0 _ c.numerator.ensures c.radicand.ensures c.widening_mul.ensures
 
 pub returns : goal.returns
 unfolding value256
 returns c =
-    ceiling-gives c.args.p c.args.w c.requires.0 c.args.x c.requires.1 _ c.numerator.ensures c.radicand.ensures c.widening_mul.ensures
+    ceiling-gives c.args.p c.args.w c.args.x c.requires.1 c.requires.0 _ c.numerator.ensures c.radicand.ensures c.widening_mul.ensures
     c.ceiling.result c.ceiling.ensures

@@ -7,4 +7,4 @@ pub overflow_add-result-2 : goal.overflow_add-result-2
 overflow_add-result-2 c =
     let q = c.args.self in
     let h : c.solid-s.result + c.args.face.gap.0 ≤ largest_gross = omega (arith, c.solid-s.ensures, c.args.face.small) in
-    omega (arith, terms q.a q.b q.c c.solid-s.result c.args.face.gap.0 c.requires.0 c.requires.1 c.requires.2 h)
+    omega (arith, terms q.a q.b q.c c.solid-s.result c.args.face.gap.0 q.small.0 q.small.1 q.small.2 h)

@@ -22,14 +22,14 @@ invariant_of-face c =
     record { small = omega (arith, k.1, number-of c.gross.ensures.value, number-of c.solid.ensures, c.gross.ensures.small) }
 
 pub force_in-requires : goal.force_in-requires
-force_in-requires c = rw c.prepare.ensures.1 (solid-known c.args.self.now c.args.pressure c.args.areas c.requires.1).0
+force_in-requires c = rw c.prepare.ensures (solid-known c.args.self.now c.args.pressure c.args.areas c.requires.1).0
 
 pub returns : goal.returns
 returns c =
     let k = solid-known c.args.self.now c.args.pressure c.args.areas c.requires.1 in
     formula-least c.args.self.now c.args.pressure c.args.areas c.requires.1 _ _
     (ap area (omega (arith, k.1, number-of c.gross.ensures.value, number-of c.solid.ensures)))
-    (rw (c.prepare.ensures.0, c.prepare.ensures.1) at c.force_in.ensures)
+    (rw c.prepare.ensures at c.force_in.ensures)
   where
     area : ℕ → Area
     area n = record { 0 = n }
