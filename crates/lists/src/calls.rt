@@ -28,8 +28,8 @@ const LENT_NUMBER: u64 = 0xa5a5_a5a5_a5a5_a5a5;
 const NONE_OVER: u64 = 32;
 
 // What a call hands back beside the state: its answer, and a number for all else, lent elements included.
-#[derive(Clone, Copy)]
-pub struct Told {
+#[derive(Clone, Copy, Debug, PartialEq, Eq)]
+pub(crate) struct Told {
     pub answer: Result<(), Refusal>,
     pub rest: u64,
 }
@@ -43,7 +43,7 @@ impl From<Result<(), Refusal>> for Told {
 }
 
 // What a call's arguments are drawn for. Where there is no tower, one section on four legs.
-#[derive(Clone, Copy)]
+#[derive(Clone, Copy, Debug, PartialEq, Eq)]
 struct Seen {
     legs: Legs,
     sections: usize,
@@ -73,19 +73,15 @@ fn taken(s: &State, key: Key) -> u16 {
     }
 }
 
-fn report_told(s: &State, lent: &mut [u64]) -> Told {
+fn call_report(s: &State, key: Key) -> Told {
+    let seen = seen_of(s);
+    let mut lent = [LENT_NUMBER; REPORT_ROOM];
+    let lent = &mut lent[..room(key, 6 * seen.sections, REPORT_ROOM)];
     let answer = report(s, lent);
     Told {
         answer,
         rest: digest_of(lent),
     }
-}
-
-fn call_report(s: &State, key: Key) -> Told {
-    let seen = seen_of(s);
-    let n = room(key, 6 * seen.sections, REPORT_ROOM);
-    let mut lent = [LENT_NUMBER; REPORT_ROOM];
-    report_told(s, &mut lent[..n])
 }
 
 fn call_check(s: &State) -> Told {
@@ -96,14 +92,6 @@ fn call_check(s: &State) -> Told {
     }
 }
 
-fn write_told(s: &State, lent: &mut [u8]) -> Told {
-    let length = write(s, lent);
-    Told {
-        answer: length.map(|_| ()),
-        rest: mix(digest_of(lent), length.unwrap_or(0) as u64),
-    }
-}
-
 // The length of the tower's file. Where there is no tower, 3.
 fn file_length(s: &State) -> usize {
     let mut bytes = [0; FILE_ROOM];
@@ -111,9 +99,13 @@ fn file_length(s: &State) -> usize {
 }
 
 fn call_write(s: &State, key: Key) -> Told {
-    let n = room(key, file_length(s), FILE_ROOM);
     let mut lent = [LENT_BYTE; FILE_ROOM];
-    write_told(s, &mut lent[..n])
+    let lent = &mut lent[..room(key, file_length(s), FILE_ROOM)];
+    let length = write(s, lent);
+    Told {
+        answer: length.map(|_| ()),
+        rest: mix(digest_of(lent), length.unwrap_or(0) as u64),
+    }
 }
 
 fn call_wind(s: &mut State, key: Key) -> Result<(), Refusal> {

@@ -17,9 +17,10 @@ mod calls;
 mod million;
 mod pressures;
 mod runs;
+mod sites;
 
 use crate::calls::drawn_call;
-use crate::million::{DRAWN, HUNG, NUMBERS, drawn_step, numbered, start};
+use crate::million::{DRAWN, HUNG, MILLION, NUMBERS, drawn_step, start};
 use crate::pressures::{Counts, PRINTED, WINDS, press, standing};
 use crate::runs::Run;
 use draws::keys::Key;
@@ -45,16 +46,16 @@ fn print_counts(rt: &impl Print, name: &str, counts: &[u64; ANSWERS]) -> io::Res
 fn run_lists(rt: &impl Print) -> io::Result<()> {
     let mut state = EMPTY;
     let mut run = Run::new();
-    for place in 0..2000 {
+    for number in 0..2000 {
         fresh(&mut state);
-        let list = ALL_LISTS.part(place);
+        let list = ALL_LISTS.part(number);
         let before = run.counts[0];
         run.digest = START;
         for place in 0..100 {
             run.add(drawn_call(&mut state, list, place));
         }
         let accepted = run.counts[0].wrapping_sub(before);
-        println!(rt; "list {place} {accepted} {}", run.digest)?;
+        println!(rt; "list {number} {accepted} {}", run.digest)?;
     }
     print_counts(rt, "answer", &run.counts)
 }
@@ -84,8 +85,7 @@ fn print_report(rt: &impl Print, name: &str, rows: &[u64]) -> io::Result<()> {
 }
 
 fn print_million(rt: &impl Print) -> io::Result<()> {
-    let mut state = EMPTY;
-    start(&mut state);
+    let mut state = start();
     let first: [u64; 36] = rows_of(&state);
     print_report(rt, "start", &first)?;
     let mut run = Run::new();
@@ -98,7 +98,7 @@ fn print_million(rt: &impl Print) -> io::Result<()> {
         run.add(take_down(&mut state, number).into());
     }
     for number in (0..HUNG).rev() {
-        run.add(hang(&mut state, numbered(number)).into());
+        run.add(hang(&mut state, MILLION.item(number)).into());
     }
     let last: [u64; 36] = rows_of(&state);
     print_report(rt, "end", &last)?;
@@ -108,8 +108,7 @@ fn print_million(rt: &impl Print) -> io::Result<()> {
 }
 
 fn print_pressures(rt: &impl Print) -> io::Result<()> {
-    let mut state = EMPTY;
-    standing(&mut state);
+    let mut state = standing();
     let mut counts = Counts::default();
     let mut digest = START;
     let mut before: Option<[u64; 18]> = None;

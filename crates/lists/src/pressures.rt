@@ -1,9 +1,7 @@
 // A list of 15 001 winds on one tower of three sections, each with 1 N/m² more on one of them than the wind before and
 // as much on the others: no reported force, shear or moment falls.
+use crate::sites::{Site, blow};
 use draws::keys::Key;
-use draws::towers::{bare_file, sound_item};
-use model::Wind;
-use service::changes::{erect, fresh, hang, set_wind};
 use slots::State;
 use std::cmp::Ordering;
 
@@ -13,14 +11,14 @@ pub(crate) const WINDS: u16 = 15_001;
 // Every 3 000 winds the pressure is 1 000 N/m² more on all sections.
 pub(crate) const PRINTED: u16 = 3_000;
 
-// The key of the tower and its items. Each of its sections has tubes whose lesser winds govern.
-const PRESSED: Key = Key(18);
-
-// Sections of the tower.
-const SECTIONS: u64 = 3;
+// Each of its sections has tubes whose lesser winds govern.
+const PRESSED: Site = Site {
+    key: Key(18),
+    sections: 3,
+};
 
 // How many forces, shears and moments were more than in the report before, the same, and less.
-#[derive(Clone, Copy, Default)]
+#[derive(Clone, Copy, Debug, PartialEq, Eq, Default)]
 pub(crate) struct Counts {
     pub more: u64,
     pub same: u64,
@@ -49,23 +47,12 @@ impl Counts {
 }
 
 // The tower with four items, and no wind yet.
-pub(crate) fn standing(s: &mut State) {
-    fresh(s);
-    let _ = erect(s, &bare_file(PRESSED, SECTIONS).bytes);
-    for number in 0..4 {
-        let key = PRESSED.part(1).part(u64::from(number));
-        let _ = hang(s, sound_item(key, number, SECTIONS));
-    }
+pub(crate) fn standing() -> State {
+    PRESSED.raised(4)
 }
 
 // The wind of this place: the sections take turns from the top.
 pub(crate) fn press(s: &mut State, place: u16) {
     let turns = |ahead: u32| ((u32::from(place) + ahead) / 3) as u16;
-    let wind = Wind {
-        direction: 4,
-        ice: 0,
-        factor: 1000,
-        pressures: &[turns(2), turns(1), turns(0)],
-    };
-    let _ = set_wind(s, wind);
+    blow(s, &[turns(2), turns(1), turns(0)]);
 }

@@ -9,7 +9,7 @@ use model::numbers::{ANSWERS, answer_number};
 
 // A list up to some call: a digest of the answers and of all that was lent, and how often each answer came, also in
 // earlier lists.
-#[derive(Drop)]
+#[derive(Debug, PartialEq, Eq, Drop)]
 pub(crate) struct Run {
     pub digest: u64,
     pub counts: [u64; ANSWERS],
