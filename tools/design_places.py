@@ -2,6 +2,7 @@
 """Candidates for the points of docs/DESIGN-PASS.md, found in the source files of the crates.
 
     tools/design_places.py [POINT..]     the candidates of these points (1 to 8), or the counts of all
+    tools/design_places.py --page        the places of the page, counted by point: found, changed, kept
 
 Each line is a candidate: what of them is a place, and what became of it, stands in docs/DESIGN-PASS.md."""
 import collections
@@ -22,14 +23,18 @@ def name_of(path):
 
 
 def blocks(path, start):
-    """The items of a file whose first line matches, with their lines."""
+    """The items of a file whose first line matches, with their lines: to the brace at the item's depth, or, where an
+    item has no braces of its own, to its semicolon."""
     lines = open(path, encoding='utf-8').read().split('\n')
     for i, line in enumerate(lines):
         match = re.match(start, line)
         if match:
             depth = len(line) - len(line.lstrip())
-            end = next((k for k in range(i + 1, len(lines)) if re.match(r'\s{%d}[})]' % depth, lines[k])
-                        and not lines[k].rstrip().endswith(('{', '->')) and '{' not in lines[k]), i)
+            opened, end = False, i
+            for end in range(i, len(lines)):
+                opened = opened or lines[end].endswith('{')
+                if re.match(r'\s{%d}\}' % depth, lines[end]) or not opened and lines[end].endswith(';'):
+                    break
             yield i + 1, match.group('name'), lines[i:end + 1]
 
 
@@ -112,7 +117,7 @@ def point3():
 
 
 def point4():
-    """Functions that only map cases to values or texts, pick the greater or less of two, compare or cut a number down."""
+    """Functions that only map cases to values or texts, pick the greater of two, compare or cut a number down."""
     for where, line, name, text in functions():
         body = [t.strip() for t in body_of(text) if t.strip()]
         code = ' '.join(body)
@@ -127,34 +132,42 @@ def point4():
 
 
 def conjuncts(text):
+    """The facts that a function requires or that a struct's ghost fields hold, without what they are a field of."""
     for line in text:
-        match = re.match(r'\s*requires (\w+ )?\{ (.*?)( \})?$', line)
-        if match:
-            for part in match.group(2).split(' × '):
-                yield part.strip('() ')
+        match = re.match(r'\s*(requires (\w+ )?|ghost \w+: )\{ (.*?)( \},?)?$', line)
+        for fact in match.group(3).split(' × ') if match else []:
+            if re.fullmatch(r'\(([^()]|\([^()]*\))*\)', fact):
+                fact = fact[1:-1]
+            yield re.sub(r'\b[a-z_]+\.(?=[a-z])', '', re.sub(r'\.(now|old|new)\b', '', fact))
 
 
 def parameters(text):
-    head = ' '.join(itertools.takewhile(lambda t: not re.match(r'\s*(requires|ensures|\{)', t), text))
-    inside = head[head.find('(') + 1:]
-    return re.findall(r'(\w+): ([^,()]+)', inside)
+    head = []
+    for line in itertools.takewhile(lambda t: not re.match(r'\s*(requires|ensures|\{)', t), text):
+        head.append(line)
+        if line.endswith('{'):
+            break
+    head = ' '.join(head)
+    return re.findall(r'(\w+): [^,()]+', head[head.find('(') + 1:])
 
 
 def point5():
-    """Facts that three or more functions require, and three parameters that stand together in three or more."""
+    """Facts that three or more functions or structs ask for, and three parameters that three or more take."""
     facts = collections.defaultdict(set)
     groups = collections.defaultdict(set)
     for where, line, name, text in functions():
         here = f'{where} {name}'
         for fact in conjuncts(text):
-            fact = re.sub(r'\.(now|old)\b', '', fact)
-            facts[re.sub(r'\bice\.0', 't.0', fact)].add(here)
-        names = [p for p, _ in parameters(text)]
-        for three in itertools.combinations(names, 3):
+            facts[fact].add(here)
+        for three in itertools.combinations(parameters(text), 3):
             groups[three].add(here)
+    for path in FILES:
+        for line, name, text in blocks(path, TYPE):
+            for fact in conjuncts(text):
+                facts[fact].add(f'{name_of(path)} {name}')
     for fact, where in sorted(facts.items(), key=lambda f: -len(f[1])):
         if len(where) >= 3:
-            yield f'{len(where)} functions require {fact}'
+            yield f'{len(where)} ask for {fact}: {", ".join(sorted(where))}'
     kept = [(g, w) for g, w in groups.items() if len(w) >= 3]
     sets = collections.defaultdict(set)
     for group, where in kept:
@@ -168,7 +181,8 @@ def point6():
     """Arrays in structs, parameters, results and locals, most of which have a count beside them."""
     for path in FILES:
         for i, line in enumerate(open(path, encoding='utf-8')):
-            if re.search(r'(: |-> |= )(&mut |&)?\[\w+(\(\w+\))?; \w+\]', line) and not line.lstrip().startswith(('//', 'const', 'pub const')):
+            array = re.search(r'(: |-> |= )(&mut |&)?\[\w+(\(\w+\))?; \w+\]', line)
+            if array and not line.lstrip().startswith(('//', 'const', 'pub const')):
                 yield f'{name_of(path)}:{i + 1} {line.strip()}'
 
 
@@ -186,13 +200,47 @@ def point8():
     """Proof files of functions, with their lines."""
     for path in sorted(glob.glob(os.path.join(ROOT, 'crates/*/proofs/**/*.antt'), recursive=True)):
         if '/out/' not in path:
-            yield f'{os.path.relpath(path, os.path.join(ROOT, "crates"))} {len(open(path, encoding="utf-8").readlines())}'
+            lines = open(path, encoding='utf-8').readlines()
+            yield f'{os.path.relpath(path, os.path.join(ROOT, "crates"))} {len(lines)}'
 
 
 POINTS = {n: globals()[f'point{n}'] for n in range(1, 9)}
 
 
+def places(section):
+    """The list items of a section of the page, each with the number of its point."""
+    point, inside, item = None, False, None
+    for line in open(os.path.join(ROOT, 'docs/DESIGN-PASS.md'), encoding='utf-8'):
+        if item and not line.startswith('  '):
+            yield point, item
+            item = None
+        if line.startswith('## '):
+            inside = line.strip() == f'## {section}'
+        head = re.match(r'### (\d)\. ', line)
+        if inside and head:
+            point = int(head.group(1))
+        elif inside and line.startswith('- '):
+            item = line[2:].strip()
+        elif item:
+            item += ' ' + line.strip()
+
+
+def page():
+    """Each place is a list item of the page; a kept one ends in `kept: (x)`, and its reason is an item further down."""
+    found, kept, reasons = collections.Counter(), collections.Counter(), collections.Counter()
+    for point, item in places('What became of the places'):
+        found[point] += 1
+        kept[point] += bool(re.search(r'; kept: \([abcd]\)$', item))
+    for point, item in places('What stays, and why'):
+        reasons[point] += bool(re.search(r' \([abcd]\): ', item))
+    for n in POINTS:
+        print(f'{n}: {found[n]} found, {found[n] - kept[n]} changed, {kept[n]} kept, {reasons[n]} with a reason')
+
+
 def main():
+    if sys.argv[1:] == ['--page']:
+        page()
+        return
     asked = [int(a) for a in sys.argv[1:] if a.isdigit()]
     if asked:
         for n in asked:
