@@ -1,8 +1,6 @@
 -- Calls behind calls, rounds behind rounds, and a report behind a report.
 use Rattle.std.proofs.Common.{◌≡◌, ℕ, zero, suc, ◌+◌, ◌*◌, ◌%◌, ◌^◌, ◌≤◌, Bool, true, false, cond, eqb, ltb, List, [], ◌∷◌, ◌++◌, length, drop, sym, refl, ap, ◌∙◌, subst, add-one, arith, length-append, length-drop, ltb-false, ne_eqb}
-use denote.Ref.{MutBor}
 use mathlib.Core.Option.{none, some}
-use Rattle.std.specs.Fn.{Shared}
 use native.Mathlib.Nat.{mod-add-mod, add-mod-mod}
 use lib.Seq.{drop-append_seam}
 use Rattle.std.proofs.lemmas.Bool.Decides.{nat_tests}
@@ -17,7 +15,7 @@ use Rattle.model.proofs.Refused.{same-state}
 use Rattle.model.proofs.Rows.{length-rows}
 use Rattle.slots.specs.Held.{Slots, is_standing, state_of, empty_slots}
 use Rattle.slots.specs.Promises.{Meets}
-use Rattle.call_bench.specs.Repeated.{windy, once, accepted_in, in_rounds, report_round, in_turn, After, rounds_to, MakesRounds, Repeats, Counted, Reported}
+use Rattle.call_bench.specs.Repeated.{windy, once, accepted_in, report_round, After, rounds_to, Counted, Reported}
 
 -- erect and wind, from fresh
 fresh-none : state_of empty_slots ≡ no_tower
@@ -86,24 +84,6 @@ module _ (m : State) where
     round-more i {t = t} {r = r} p q e =
         rw add-one (subst (λ (x : State). After m (rounds_to round m i ++ round x i) t r) p.state (after_more (rounds_to round m i) _ p q e))
 
--- rounds whose calls the number alone tells, or the state alone
-pub rounds-numbered : (m : State) (round : ℕ → List Call) (n : ℕ) → rounds_to (λ _ i. round i) m n ≡ in_rounds round n
-unfolding rounds_to in_rounds
-rounds-numbered m round zero = refl
-rounds-numbered m round (suc n) = ap (λ (cs : List Call). cs ++ round n) (rounds-numbered m round n)
-
-pub rounds-told : (m : State) (round : State → List Call) (n : ℕ) → rounds_to (λ x _. round x) m n ≡ in_turn round m n
-unfolding rounds_to in_turn
-rounds-told m round zero = refl
-rounds-told m round (suc n) = ap (λ (cs : List Call). cs ++ round (run m cs)) (rounds-told m round n)
-
-module _ {F : Type 0} {g : Shared F (MutBor Slots × (ℕ × Unit {0})) (ℕ × (MutBor Slots × Unit {0}))} {f : F} (m : State) {rounds r : ℕ} (h : Repeats g f m rounds r) where
-  pub repeats-numbered : (round : ℕ → List Call) → MakesRounds g f rounds (λ _ i. round i) → Counted m (in_rounds round rounds) r
-  repeats-numbered round k = rw (← rounds-numbered m round rounds) (h (λ _ i. round i) k)
-
-  pub repeats-told : (round : State → List Call) → MakesRounds g f rounds (λ x _. round x) → Counted m (in_turn round m rounds) r
-  repeats-told round k = rw (← rounds-told m round rounds) (h (λ x _. round x) k)
-
 -- a report into what a report left
 filled-again : (n : ℕ) (given lent : List ℕ) → filled n given (filled n given lent) ≡ filled n given lent
 unfolding filled
@@ -136,8 +116,11 @@ reported-again m lent =
     ∙ filled-again (report_refusal m (length lent)) (rows_in m) lent
 
 module _ (m : State) (before : List ℕ) where
+  abbrev reports : ℕ → List Call
+  reports = rounds_to (λ _ _. report_round before) m
+
   pub reported-none : Reported m 0 before before 0
-  unfolding accepted_in in_rounds
+  unfolding accepted_in rounds_to
   reported-none = record { answer = refl; rows = refl }
 
   -- what is lent to round i, and what it leaves
@@ -150,27 +133,24 @@ module _ (m : State) (before : List ℕ) where
       by-case true f = (ap length f, ap (λ (l : List ℕ). lent_after m (report l)) f)
       by-case false f = (ap length f ∙ length-reported m before, ap (λ (l : List ℕ). lent_after m (report l)) f ∙ reported-again m before)
 
-  run-reports : (n : ℕ) → run m (in_rounds (report_round before) n) ≡ m
-  unfolding in_rounds
+  run-reports : (n : ℕ) → run m (reports n) ≡ m
+  unfolding rounds_to
   run-reports zero = refl
   run-reports (suc n) =
-      run-append m (in_rounds (report_round before) n) (report before ∷ [])
+      run-append m (reports n) (report before ∷ [])
       ∙ ap (λ (x : State). step x (report before)) (run-reports n)
       ∙ same-state m (report before) refl
 
   pub reported-more : (i : ℕ) {lent after : List ℕ} (s : Slots) (a : Result ⊤ Refusal) {n r : ℕ} → state_of s ≡ m → Reported m i before lent n
       → Meets (report lent) s s (answer_reply a) after → r ≡ (n + once (answer_number a)) % 2 ^ 64 → Reported m (i + 1) before after r
-  unfolding in_rounds
+  unfolding rounds_to
   reported-more i {lent} s a {n} {r} known p h e =
       let so : _ = lent-in i lent p.rows in
-      let refusal : answer_number a ≡ refusal_of (run m (in_rounds (report_round before) i)) (report before) =
+      let refusal : answer_number a ≡ refusal_of (run m (reports i)) (report before) =
       ap (λ (x : Reply). x.number) h.reply ∙ ap (λ (x : State). report_refusal x (length lent)) known ∙ ap (report_refusal m) so.0
       ∙ sym (ap (λ (x : State). report_refusal x (length before)) (run-reports i)) in
       record {
-        answer = rw add-one (counted-more m (in_rounds (report_round before) i) (report before ∷ []) p.answer (counted-one (run m (in_rounds (report_round before) i)) (report before) (ap once refusal)) e);
+        answer = rw add-one (counted-more m (reports i) (report before ∷ []) p.answer (counted-one (run m (reports i)) (report before) (ap once refusal)) e);
         rows =
             rw (ne_eqb (i + 1) 0 (λ (z : i + 1 ≡ 0). omega arith)) (h.lent ∙ ap (λ (x : State). lent_after x (report lent)) known ∙ so.1);
       }
-
-  pub reported-length : (i : ℕ) {after : List ℕ} {r : ℕ} → Reported m i before after r → length after ≡ length before
-  reported-length i {after} p = (lent-in i after p.rows).0

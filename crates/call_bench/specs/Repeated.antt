@@ -21,14 +21,13 @@ unfoldable pub accepted_in : State → List Call → ℕ
 accepted_in m [] = 0
 accepted_in m (c ∷ cs) = once (refusal_of m c) + accepted_in (step m c) cs
 
--- the calls of the first n rounds
-unfoldable pub in_rounds : (ℕ → List Call) → ℕ → List Call
-in_rounds round zero = []
-in_rounds round (suc n) = in_rounds round n ++ round n
+-- the calls of the first n rounds, where a round's calls are told by the state that the last one left and its number
+unfoldable pub rounds_to : (State → ℕ → List Call) → State → ℕ → List Call
+rounds_to round m zero = []
+rounds_to round m (suc n) = rounds_to round m n ++ round (run m (rounds_to round m n)) n
 
--- the calls of round i
-abbrev pub report_round : List ℕ → ℕ → List Call
-report_round lent i = report lent ∷ []
+abbrev pub report_round : List ℕ → List Call
+report_round lent = report lent ∷ []
 
 abbrev pub dish : ℕ → Item
 dish n =
@@ -42,11 +41,12 @@ dish n =
       position = 900;
     }
 
+-- the calls of round i
 abbrev pub hang_round : ℕ → List Call
 hang_round i = hang (dish (i % 1000)) ∷ take_down (i % 1000) ∷ []
 
-abbrev pub erect_round : List ℕ → ℕ → List Call
-erect_round file i = erect file ∷ []
+abbrev pub erect_round : List ℕ → List Call
+erect_round file = erect file ∷ []
 
 -- the item that was hung first, or a dish where none hangs
 abbrev pub first_in : State → Item
@@ -57,11 +57,6 @@ first_in (standing t w) = slice_index_or t.items 0 (dish 0)
 abbrev pub first_round : State → List Call
 first_round m = take_down (first_in m).number ∷ hang (first_in m) ∷ []
 
--- the calls of the first n rounds, each in the state that the last one left
-unfoldable pub in_turn : (State → List Call) → State → ℕ → List Call
-in_turn round m zero = []
-in_turn round m (suc n) = in_turn round m n ++ round (run m (in_turn round m n))
-
 -- so many of the calls are accepted, modulo 2^64
 abbrev pub Counted : State → List Call → ℕ → Type 0
 Counted m cs r = r ≡ accepted_in m cs % 2 ^ 64
@@ -70,11 +65,6 @@ Counted m cs r = r ≡ accepted_in m cs % 2 ^ 64
 pub record After (m : State) (cs : List Call) (s : Slots) (n : ℕ) : Type 0 where
   pub state : state_of s ≡ run m cs
   pub count : Counted m cs n
-
--- the calls of the first n rounds, where a round's calls are told by the state that the last one left and its number
-unfoldable pub rounds_to : (State → ℕ → List Call) → State → ℕ → List Call
-rounds_to round m zero = []
-rounds_to round m (suc n) = rounds_to round m n ++ round (run m (rounds_to round m n)) n
 
 -- a call of f with these slots and this number may answer n, and leave those slots
 pub record RoundReturns {F : Type 0} (g : Shared F (MutBor Slots × (ℕ × Unit {0})) (ℕ × (MutBor Slots × Unit {0}))) (f : F) (before : Slots) (i n : ℕ) (after : Slots) : Type 0 where
@@ -95,14 +85,14 @@ Repeats g f m rounds r = (round : State → ℕ → List Call) → MakesRounds g
 
 -- each report is lent what the last one left, and leaves what the first one left
 pub record Reported (m : State) (rounds : ℕ) (before after : List ℕ) (r : ℕ) : Type 0 where
-  pub answer : Counted m (in_rounds (report_round before) rounds) r
+  pub answer : Counted m (rounds_to (λ _ _. report_round before) m rounds) r
   pub rows : after ≡ cond (rounds == 0) before (lent_after m (report before))
 
 abbrev pub Hung : State → ℕ → ℕ → Type 0
-Hung m rounds r = Counted m (in_rounds hang_round rounds) r
+Hung m rounds r = Counted m (rounds_to (λ _ i. hang_round i) m rounds) r
 
 abbrev pub FirstDown : State → ℕ → ℕ → Type 0
-FirstDown m rounds r = Counted m (in_turn first_round m rounds) r
+FirstDown m rounds r = Counted m (rounds_to (λ x _. first_round x) m rounds) r
 
 abbrev pub Erected : State → List ℕ → ℕ → ℕ → Type 0
-Erected m file rounds r = Counted m (in_rounds (erect_round file) rounds) r
+Erected m file rounds r = Counted m (rounds_to (λ _ _. erect_round file) m rounds) r

@@ -189,7 +189,7 @@ pub extern "C" fn erect_bench(
         wind,
         rounds,
         |state: &mut State, round: u64| -> u64
-            ensures { After (state_of state.old) (erect_round file.entry.now round) state.new result }
+            ensures { After (state_of state.old) (erect_round file.entry.now) state.new result }
         { once(erect(state, file)) },
     )
 }
