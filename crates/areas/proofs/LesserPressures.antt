@@ -1,16 +1,15 @@
 -- The lesser winds of the groups in code.
 use Prim.Native.Nat.{ℕ, zero, suc, ◌+◌, ◌*◌, ◌/◌, ◌≤◌, ◌<◌}
-use mathlib.Core.Path.{◌≡◌, refl, sym, subst, ◌∙◌}
+use mathlib.Core.Path.{◌≡◌, refl, sym, ◌∙◌}
 use mathlib.Core.Bool.{Bool, true, false, cond, not, ◌&&◌}
 use mathlib.Core.List.{List, [], ◌∷◌}
-use mathlib.Core.Logic.{⊎_elim}
 use native.Mathlib.Omega.{arith}
 use native.Mathlib.Nat.{mul-pos, mul-le-mul}
 use lib.Dec.{eqb}
 use lib.ListN.{length, get_or, take}
 use borrow.Author.Tests.{eq-eqb, ne_eqb}
+use Rattle.std.specs.Bool.{then_some}
 use Rattle.units.specs.declared.Length.{Length}
-use Rattle.exact.proofs.Order.{le-or-lt}
 use Rattle.exact.proofs.Bools.{clash, and_split}
 use Rattle.model.specs.declared.Member.{Member}
 use Rattle.model.specs.declared.Member.TheVariants.{Flat, Round}
@@ -21,7 +20,8 @@ use Rattle.std.proofs.lemmas.List.Folds.{list_any-append}
 use Rattle.model.specs.Valid.{group_fits}
 use Rattle.model.proofs.Sections.{none-lesser}
 use Rattle.model.proofs.LesserWinds.{GreatestUnder, greatest-under, positive, less, limit-above, limit-over, stays, turns_at}
-use Rattle.areas.specs.LesserPressures.{turns_above, Needless, seen, Covered, none}
+use Rattle.areas.specs.LesserPressures.{turns_above, Needless, seen, Covered, none, needless, WindOf}
+use Rattle.areas.proofs.Facts.{no_group}
 
 -- the greatest pressure below it: not 0 for a diameter of at most 1 m, and below q
 module _ (q : ℕ) (d : Length) (g : flow_limit < 2 * q * (d.0 * d.0)) where
@@ -93,11 +93,11 @@ get_or-any [] i c d h = absurd (omega arith)
 get_or-any (g ∷ l) zero c d h = refl
 get_or-any (g ∷ l) (suc i) c d h = get_or-any l i c d (omega arith)
 
--- one group more is covered
-pub covered_more : (t : Length) (q : ℕ) (gs : List Group) (from i : ℕ) → ((k : ℕ) → from ≤ k → k < i → Covered t q gs k) → Covered t q gs i
-    → (k : ℕ) → from ≤ k → k < i + 1 → Covered t q gs k
-covered_more t q gs from i before here k l h =
-    ⊎_elim (λ (g : i ≤ k). let z : i ≡ k = omega arith in subst (Covered t q gs) z here) (before k l) (le-or-lt i k)
+-- group i, which has the lesser wind p and is covered where that is told to be needless
+pub wind_of : (t : Length) (q : ℕ) (gs : List Group) (i p : ℕ) → i < length gs → lesser_of t q (get_or gs i no_group).member ≡ p ∷ [] → (0 < p) × (p < q)
+    → (b : Bool) → (b ≡ true → Needless t q gs i p) → WindOf t q gs i (then_some (not b) p)
+wind_of t q gs i p h e s true n = needless (λ d. rw (get_or-any gs i d no_group h) e) (n refl)
+wind_of t q gs i p h e s false n = record { lesser = λ d. rw (get_or-any gs i d no_group h) e; positive = s.0; small = s.1 }
 
 -- no group has a lesser wind where there is no supercritical area
 pub none-covered : (t : Length) (q : ℕ) (gs : List Group) → all_of group_fits gs ≡ true → (areas_of t q gs).supercritical.0 ≡ 0

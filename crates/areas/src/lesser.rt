@@ -2,19 +2,12 @@
 ghost use Rattle.std.specs.Prelude.{◌≡◌, true, ◌*◌, ◌/◌, ◌≤◌, ◌<◌, take, length, IfSome, option_to_list};
 ghost use Rattle.model.specs.Lists.{any_of};
 ghost use Rattle.model.specs.Areas.{size_of, flow_limit, lesser_of};
-ghost use Rattle.areas.specs.LesserPressures.{turns_above, Needless, NextOf};
+ghost use Rattle.areas.specs.LesserPressures.{turns_above, Needless, WindOf};
 
 use crate::face::Face;
 use crate::section::{FLOW_LIMIT, is_supercritical};
 use model::Member;
 use units::Length;
-
-// A group, by its number, and the lesser wind in which its section is worked out.
-#[derive(Clone, Copy, Debug, PartialEq, Eq, Hash)]
-pub struct NextWind {
-    pub group: usize,
-    pub pressure: u16,
-}
 
 // The greatest whole pressure at which a diameter is not supercritical that is supercritical under q.
 fn greatest_subcritical(q: u16, d: Length) -> u16
@@ -70,19 +63,12 @@ impl<'a> Face<'a> {
         4 * (p as u32) <= q as u32 || self.came_before(t, p, i)
     }
 
-    // The next group from number `from` on that is to be worked out in its lesser wind.
-    pub fn next_wind(&self, t: Length, q: u16, from: usize) -> Option<NextWind>
-        requires { from ≤ length self.now.groups.now }
-        ensures { NextOf t q self.now.groups.now from result }
+    // The lesser wind that the section is to be worked out in for group i, if there is one.
+    pub fn lesser_wind(&self, t: Length, q: u16, i: usize) -> Option<u16>
+        requires { i < length self.now.groups.now }
+        ensures { WindOf t q self.now.groups.now i result }
     {
-        for i in from..self.groups.len() {
-            let Some(pressure) = lesser_pressure(t, q, self.groups[i].member) else {
-                continue;
-            };
-            if !self.is_needless(t, q, pressure, i) {
-                return Some(NextWind { group: i, pressure });
-            }
-        }
-        None
+        let pressure = lesser_pressure(t, q, self.groups[i].member)?;
+        (!self.is_needless(t, q, pressure, i)).then_some(pressure)
     }
 }

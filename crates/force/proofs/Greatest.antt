@@ -1,5 +1,5 @@
 -- The greatest of the formula's values, wind by wind. A lesser wind that cannot be the greatest changes nothing.
-use Prim.Native.Nat.{ℕ, zero, suc, ◌+◌, ◌-◌, ◌*◌, ◌≤◌, ◌<◌}
+use Prim.Native.Nat.{ℕ, zero, suc, ◌+◌, ◌*◌, ◌≤◌, ◌<◌}
 use mathlib.Core.Path.{◌≡◌, refl, sym, ap, ◌∙◌}
 use mathlib.Core.Bool.{Bool, cond, true, false, ◌||◌, true≢false}
 use mathlib.Core.List.{List, [], ◌∷◌, ◌++◌, map, map-append}
@@ -114,12 +114,13 @@ module _ (s : LoadedSection) where
     greatest-more {r} b =
         rw more-is (least-join (all_sound (s.pressure ∷ winds (take i groups))) (all_sound (p ∷ [])) a b)
 
-  covered-at : (i : ℕ) → i < length groups → Covered s.case.ice.thickness s.pressure groups i → {m : ℕ}
+  -- or which need not be worked out
+  pub covered-at : (i : ℕ) → i < length groups → Covered s.case.ice.thickness s.pressure groups i → {m : ℕ}
       → Least (greatest_to s i) m → Least (greatest_to s (i + 1)) m
   covered-at i g (none e) {m} a = rw (lesser-none i g (e no_group)) a
   covered-at i g (needless {p} e w) {m} a = skipped i g p (e no_group) a w
 
-  -- groups that need not be worked out
+  -- many of these
   pub greatest-covered : (i n : ℕ) → i + n ≤ length groups → ((j : ℕ) → i ≤ j → j < i + n → Covered s.case.ice.thickness s.pressure groups j) → {m : ℕ}
       → Least (greatest_to s i) m → Least (greatest_to s (i + n)) m
   greatest-covered i zero b c {m} a = let z : i + 0 ≡ i = omega arith in rw z a
@@ -128,12 +129,6 @@ module _ (s : LoadedSection) where
       rw z
       (covered-at (i + n) (omega arith) (c (i + n) (omega arith) (omega arith))
       (greatest-covered i n (omega arith) (λ j x y. c j x (omega arith)) a))
-
-  pub greatest-between : (i j : ℕ) → i ≤ j → j ≤ length groups → ((x : ℕ) → i ≤ x → x < j → Covered s.case.ice.thickness s.pressure groups x) → {m : ℕ}
-      → Least (greatest_to s i) m → Least (greatest_to s j) m
-  greatest-between i j b g c {m} a =
-      let z : i + (j - i) ≡ j = omega arith in
-      rw z at (greatest-covered i (j - i) (omega arith) (λ x y w. c x y (omega arith)) a)
 
   -- before the first group
   pub first-greatest : {r : ℕ} → Least (only (formula_in s s.pressure)) r → Least (greatest_to s 0) r

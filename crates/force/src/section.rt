@@ -91,11 +91,11 @@ impl<'a> LoadedSection<'a> {
         if areas.supercritical.0 != 0 {
             let ice = self.case.ice;
             let face = self.face();
-            let mut next = 0;
-            while let Some(wind) = face.next_wind(ice.thickness, self.pressure, next) {
-                let here = face.areas(ice, wind.pressure);
-                force = force.max(self.formula_force(wind.pressure, here).value);
-                next = wind.group + 1;
+            for i in 0..face.groups.len() {
+                if let Some(pressure) = face.lesser_wind(ice.thickness, self.pressure, i) {
+                    let here = face.areas(ice, pressure);
+                    force = force.max(self.formula_force(pressure, here).value);
+                }
             }
         }
         Load { areas, force }
