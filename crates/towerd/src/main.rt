@@ -16,14 +16,13 @@ use std::io;
 use std::io::Read;
 
 // The bytes from `at` to `end` of the buffer are read and not answered yet. `cut` says that the start of a line was
-// dropped, since it is too long, `ended` that the input has ended, and `open` that there is more to answer.
+// dropped, since it is too long, and `ended` that the input has ended.
 #[derive(Clone, Copy)]
 struct Input {
     at: usize,
     end: usize,
     cut: bool,
     ended: bool,
-    open: bool,
 }
 
 // A line whose start was dropped.
@@ -45,14 +44,14 @@ fn serve(
         end: 0,
         cut: false,
         ended: false,
-        open: true,
     };
-    let mut turns = u64::MAX;
-    while turns > 0 && input.open {
-        turns -= 1;
+    for _ in 0..u64::MAX {
         let unanswered = &buf[input.at..input.end];
         let Some(length) = unanswered.iter().position(|b| *b == b'\n') else {
-            input = refill(stdin, input, buf);
+            let Some(refilled) = refill(stdin, input, buf) else {
+                break;
+            };
+            input = refilled;
             continue;
         };
         if input.cut {

@@ -1,5 +1,5 @@
 // Reading into the buffer.
-ghost use Rattle.std.specs.Prelude.{◌≤◌, length};
+ghost use Rattle.std.specs.Prelude.{◌≤◌, length, IfSome};
 ghost use Rattle.towerd.specs.Buffered.{Buffered};
 
 use crate::Input;
@@ -7,35 +7,34 @@ use requests::line::LONGEST;
 use std::io::Read;
 
 // At the end of the input, what is left is a line.
-fn last_line(buf: &mut [u8], rest: usize, cut: bool) -> Input
+fn last_line(buf: &mut [u8], rest: usize, cut: bool) -> Option<Input>
     requires { rest ≤ length buf.old }
-    ensures { Buffered result buf.new }
+    ensures { IfSome result (λ input. Buffered input buf.new) }
 {
+    if rest == 0 && !cut {
+        return None;
+    }
     let mut end = rest;
     if rest < buf.len() {
         buf[rest] = b'\n';
         end += 1;
     }
-    Input {
+    Some(Input {
         at: 0,
         end,
         cut,
         ended: true,
-        open: cut || 0 < rest,
-    }
+    })
 }
 
-// More bytes behind those that are not answered, of which none are kept if their line is too long. A read that fails
-// counts as the end of the input.
-pub fn refill(stdin: &mut impl Read, input: Input, buf: &mut [u8]) -> Input
+// More bytes behind those that are not answered, of which none are kept if their line is too long; None where nothing
+// is left to answer. A read that fails counts as the end of the input.
+pub fn refill(stdin: &mut impl Read, input: Input, buf: &mut [u8]) -> Option<Input>
     requires { Buffered input buf.old }
-    ensures { Buffered result buf.new }
+    ensures { IfSome result (λ refilled. Buffered refilled buf.new) }
 {
     if input.ended {
-        return Input {
-            open: false,
-            ..input
-        };
+        return None;
     }
     let is_long = LONGEST < input.end - input.at;
     let cut = input.cut || is_long;
@@ -45,11 +44,10 @@ pub fn refill(stdin: &mut impl Read, input: Input, buf: &mut [u8]) -> Input
     if read == 0 {
         return last_line(buf, kept, cut);
     }
-    Input {
+    Some(Input {
         at: 0,
         end: kept + read,
         cut,
         ended: false,
-        open: true,
-    }
+    })
 }
