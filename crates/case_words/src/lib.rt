@@ -14,6 +14,7 @@ ghost use Rattle.case_words.specs.Words.{section_in, case_in};
 
 use crate::words::{word16, word32};
 use model::Section;
+use std::fmt;
 use units::{Force, Length};
 
 // The section and the wind on it, with no test of any range.
@@ -40,6 +41,24 @@ pub enum Fault {
     Sizes,
     Groups,
     Solidity,
+}
+
+impl fmt::Display for Fault {
+    fn fmt<W: fmt::Write>(&self, f: &mut fmt::Formatter<W>) -> fmt::Result {
+        f.write_str(match self {
+            Fault::Missing => "numbers are missing",
+            Fault::Legs => "legs are neither 3 nor 4",
+            Fault::Direction => "k is above 23, or odd with three legs",
+            Fault::Ice => "the ice class is above 5",
+            Fault::Factor => "the structure factor is not 500 to 2000",
+            Fault::Pressure => "the pressure is above 5000",
+            Fault::Sizes => {
+                "the width, the height or the number of groups is out of range, or the height is odd"
+            }
+            Fault::Groups => "a kind, size or length of a group is out of range",
+            Fault::Solidity => "A_S is above A_u",
+        })
+    }
 }
 
 #[tactic(auto, unfolding(crate::specs::Words::section_in))]

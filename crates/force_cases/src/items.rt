@@ -1,5 +1,5 @@
 // The items of a case.
-ghost use Rattle.std.specs.Prelude.{◌≡◌, ◌≤◌, false, IfOk, IfErr};
+ghost use Rattle.std.specs.Prelude.{◌≡◌, false, IfOk, IfErr};
 ghost use Rattle.model.specs.Lists.{all_of};
 ghost use Rattle.model.specs.File.{fields_in_range};
 ghost use Rattle.force_cases.specs.Items.{items_at, HoldsItems};
@@ -14,7 +14,6 @@ use slots::items::item_slot;
 
 // The slots of the items whose number stands at `place`, behind which they take the numbers up to the end.
 pub(crate) fn item_slots(numbers: &[u64], place: usize) -> Result<ArrayVec<Slot, 64>, Wrong>
-    requires { place ≤ 32 }
     ensures held { IfOk result (λ slots. HoldsItems numbers.now place slots.items) }
     ensures fit { IfErr result (λ wrong. wrong ≡ Wrong.Item → all_of fields_in_range (items_at numbers.now place) ≡ false) }
 {
@@ -22,17 +21,17 @@ pub(crate) fn item_slots(numbers: &[u64], place: usize) -> Result<ArrayVec<Slot,
     if 64 < held {
         return Err(Wrong::ManyItems);
     }
-    let start = place + 1;
-    let end = start + 6 * held as usize;
-    if numbers.len() < end {
+    let items = &numbers[place + 1..];
+    let needed = 6 * held as usize;
+    if items.len() < needed {
         return Err(Wrong::Case(Fault::Missing));
     }
-    if end < numbers.len() {
+    if needed < items.len() {
         return Err(Wrong::LeftOver);
     }
     let mut slots = ArrayVec::new();
-    for i in 0..held as usize {
-        let item = item_at(numbers, start + 6 * i);
+    for fields in items.chunks_exact(6) {
+        let item = item_at(fields, 0);
         if !fields_in_range(item) {
             return Err(Wrong::Item);
         }

@@ -26,25 +26,12 @@ impl From<Fault> for Wrong {
 
 impl fmt::Display for Wrong {
     fn fmt<W: fmt::Write>(&self, f: &mut fmt::Formatter<W>) -> fmt::Result {
-        f.write_str(match self {
-            Wrong::Numbers(NumbersError::Bad) =>
-                "not decimal numbers with single spaces between them",
-            Wrong::Numbers(NumbersError::Large) => "a number is too large",
-            Wrong::Numbers(NumbersError::Many) => "there are too many numbers",
-            Wrong::Case(Fault::Missing) => "numbers are missing",
-            Wrong::Case(Fault::Legs) => "legs are neither 3 nor 4",
-            Wrong::Case(Fault::Direction) => "k is above 23, or odd with three legs",
-            Wrong::Case(Fault::Ice) => "the ice class is above 5",
-            Wrong::Case(Fault::Factor) => "the structure factor is not 500 to 2000",
-            Wrong::Case(Fault::Pressure) => "the pressure is above 5000",
-            Wrong::Case(Fault::Sizes) => {
-                "the width, the height or the number of groups is out of range, or the height is odd"
-            }
-            Wrong::Case(Fault::Groups) => "a kind, size or length of a group is out of range",
-            Wrong::Case(Fault::Solidity) => "A_S is above A_u",
-            Wrong::ManyItems => "there are more than 64 items",
-            Wrong::LeftOver => "numbers are left over",
-            Wrong::Item => "an item is out of range",
-        })
+        match self {
+            Wrong::Numbers(error) => write!(f, "{error}"),
+            Wrong::Case(fault) => write!(f, "{fault}"),
+            Wrong::ManyItems => f.write_str("there are more than 64 items"),
+            Wrong::LeftOver => f.write_str("numbers are left over"),
+            Wrong::Item => f.write_str("an item is out of range"),
+        }
     }
 }
