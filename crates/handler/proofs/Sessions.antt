@@ -10,7 +10,7 @@ use Rattle.requests.specs.Asked.{Asked, Room, asked_in}
 use Rattle.handler.specs.declared.Buffers.{Buffers}
 use Rattle.handler.specs.AnswerText.{answer_text}
 use Rattle.handler.specs.RequestSteps.{after}
-use Rattle.handler.specs.Responds.{room_in, Responds}
+use Rattle.handler.specs.Responds.{room_in, Responds, SameSlices}
 use Rattle.handler.specs.Sessions.{Exchange, after_all, Answers, none, more}
 use Rattle.handler.proofs.respond.respond.Reads as respond-reads
 
@@ -18,6 +18,10 @@ use Rattle.handler.proofs.respond.respond.Reads as respond-reads
 pub record Lent (room : Room) (most : ℕ) (b : Buffers) : Type 0 where
   pub room_is : room_in b ≡ room
   pub out : length b.out.now ≡ most
+
+-- and so they have at the next one
+pub lent-next : {room : Room} {most : ℕ} {b b' : Buffers} → Lent room most b → SameSlices b b' → Lent room most b'
+lent-next l p = record { room_is = p.room ∙ l.room_is; out = p.text ∙ l.out }
 
 -- the text that was put at the start of a slice
 put_whole : {text before out : List ℕ} {r most : ℕ} → Puts text before 0 out r → length before ≡ most → length text ≤ most → take r out ≡ text

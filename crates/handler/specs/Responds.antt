@@ -16,3 +16,12 @@ pub record Responds (a : Asked) (old new : Slots) (before out : List ℕ) (n : �
   pub state : state_of new ≡ after (state_of old) a
   pub text : Puts (answer_text (state_of old) a) before 0 out n
   pub untouched : Leaves (state_of old) a → new ≡ old
+
+-- each slice is still the one that was lent, and as long
+pub record SameSlices (old new : Buffers) : Type 0 where
+  pub numbers : new.numbers.ghost_name ≡ old.numbers.ghost_name
+  pub rows : new.rows.ghost_name ≡ old.rows.ghost_name
+  pub file : new.file.ghost_name ≡ old.file.ghost_name
+  pub out : new.out.ghost_name ≡ old.out.ghost_name
+  pub room : room_in new ≡ room_in old
+  pub text : length new.out.now ≡ length old.out.now
