@@ -62,7 +62,7 @@ pub fn test_case(case: &Case, n: usize) -> Result<SoundCase, Fault>
     if !STRUCTURE_FACTOR.contains(case.factor) {
         return Err(Fault::Factor);
     }
-    if !PRESSURES.contains(case.pressure as u32) {
+    if !PRESSURES.contains(u32::from(case.pressure)) {
         return Err(Fault::Pressure);
     }
     test_section(Ice::of_class(case.ice), n, &case.section)?;

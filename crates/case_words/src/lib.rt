@@ -18,7 +18,7 @@ use std::fmt;
 use units::{Force, Length};
 
 // The section and the wind on it, with no test of any range.
-#[derive(Debug, PartialEq, Eq, Drop)]
+#[derive(Clone, Debug, PartialEq, Eq, Drop)]
 pub struct Case {
     pub legs: u32,
     pub direction: u32,

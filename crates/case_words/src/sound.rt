@@ -6,6 +6,9 @@ ghost use Rattle.areas.specs.Fits.{fits_under};
 use crate::Case;
 use areas::ice::Ice;
 use areas::iced::IcedSection;
+use force::LoadCase;
+use force::section::LoadedSection;
+use model::Legs;
 
 // The section stands under the ice.
 #[derive(Clone, Copy)]
@@ -18,6 +21,9 @@ pub struct SoundCase<'a> {
 }
 
 impl<'a> SoundCase<'a> {
+    ghost use Rattle.model.specs.File.{legs_of};
+    ghost use Rattle.model.specs.Force.{largest_items};
+
     pub fn iced_section(&self) -> IcedSection<'a>
         ensures ice { result.ice.thickness ≡ thickness self.now.case.now.ice }
         ensures section { result.section.now ≡ self.now.case.now.section }
@@ -25,6 +31,31 @@ impl<'a> SoundCase<'a> {
         IcedSection {
             ice: Ice::of_class(self.case.ice),
             section: &self.case.section,
+        }
+    }
+
+    // The section under this pressure, with this sum of its items.
+    pub fn loaded(&self, pressure: u16, items: u64) -> LoadedSection<'a>
+        requires { (pressure ≤ 5000) × (items ≤ largest_items) }
+        ensures legs { result.case.legs ≡ legs_of self.now.case.now.legs }
+        ensures direction { result.case.direction ≡ self.now.case.now.direction }
+        ensures ice { result.case.ice.thickness ≡ thickness self.now.case.now.ice }
+        ensures factor { result.case.factor ≡ self.now.case.now.factor }
+        ensures section { result.section.now ≡ self.now.case.now.section }
+        ensures pressure { result.pressure ≡ pressure }
+        ensures items { result.items ≡ items }
+    {
+        let IcedSection { ice, section } = self.iced_section();
+        LoadedSection {
+            case: LoadCase {
+                legs: Legs::from(self.case.legs),
+                direction: self.case.direction,
+                ice,
+                factor: self.case.factor,
+            },
+            section,
+            pressure,
+            items,
         }
     }
 }

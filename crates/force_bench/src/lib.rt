@@ -8,9 +8,6 @@ ghost use Rattle.force_bench.specs.Words.{total_of, bench_of};
 use case_words::case_of;
 use case_words::faults::{groups_end, test_case};
 use case_words::sound::SoundCase;
-use force::LoadCase;
-use force::section::LoadedSection;
-use model::Legs;
 use model::ranges::LARGEST_ITEM;
 
 // The largest sum of a section's items.
@@ -21,21 +18,9 @@ fn total(sound: SoundCase, items: u64, rounds: u64) -> u64
     requires { (15 ≤ sound.case.now.pressure) × (items ≤ largest_items) }
     ensures { result ≡ total_of sound.entry.case.now items rounds }
 {
-    let iced = sound.iced_section();
-    let case = LoadCase {
-        legs: Legs::from(sound.case.legs),
-        direction: sound.case.direction,
-        ice: iced.ice,
-        factor: sound.case.factor,
-    };
     let mut sum: u64 = 0;
     for i in 0..rounds {
-        let section = LoadedSection {
-            case,
-            section: iced.section,
-            pressure: sound.case.pressure - (i % 16) as u16,
-            items,
-        };
+        let section = sound.loaded(sound.case.pressure - (i % 16) as u16, items);
         sum = sum.wrapping_add(section.load().force.0);
     }
     sum

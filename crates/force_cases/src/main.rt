@@ -11,11 +11,9 @@ use crate::items::item_slots;
 use crate::wrong::Wrong;
 use case_words::case_of;
 use case_words::faults::{groups_end, test_case};
-use force::section::LoadedSection;
-use force::{Load, LoadCase, Way};
+use force::{Load, Way};
 use lines::input::read_within;
 use lines::numbers::numbers_of;
-use model::Legs;
 use slots::items::item_sums;
 use std::io;
 
@@ -57,19 +55,8 @@ fn answer_numbers(numbers: &[u64]) -> Result<Answer, Wrong> {
     let case = case_of(numbers);
     let sound = test_case(&case, numbers.len())?;
     let slots = item_slots(numbers, groups_end(&case.section))?;
-    let iced = sound.iced_section();
-    let items = item_sums(&slots, iced.ice)[0];
-    let section = LoadedSection {
-        case: LoadCase {
-            legs: Legs::from(case.legs),
-            direction: case.direction,
-            ice: iced.ice,
-            factor: case.factor,
-        },
-        section: iced.section,
-        pressure: case.pressure,
-        items,
-    };
+    let items = item_sums(&slots, sound.iced_section().ice)[0];
+    let section = sound.loaded(case.pressure, items);
     Ok(Answer {
         load: section.load(),
         items,

@@ -1,5 +1,4 @@
-use Rattle.std.proofs.Common.{refl, ap, ◌∙◌}
-use Rattle.model.specs.declared.Section.{Section}
+use Rattle.std.proofs.Common.{refl, ap}
 use Rattle.model.specs.Tower.{section_of}
 use Rattle.force_bench.proofs.Rounds.{total-none, total-more, force-known}
 use Rattle.force_bench.proofs.total.Goals as goal
@@ -9,6 +8,6 @@ loop-i-init c = total-none _ _
 
 pub loop-i-preserved : goal.loop-i-preserved
 loop-i-preserved c =
-    let iced = c.iced_section-iced in
+    let on = c.loaded-section.ensures in
     total-more _ _ _ _ _ _ c.loop-i.invariant
-    (force-known _ _ c.loop-i.i _ c.from.ensures refl iced.ensures.ice refl (ap section_of iced.ensures.section) refl refl c.load-sum.ensures) refl
+    (force-known _ _ c.loop-i.i _ on.legs on.direction on.ice on.factor (ap section_of on.section) on.pressure on.items c.load-sum.ensures) refl

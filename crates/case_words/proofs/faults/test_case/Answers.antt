@@ -8,6 +8,6 @@ invariant_of-result c =
     record {
       ice = (in-range ice_classes _ (sym c.contains-2.ensures ∙ c.if-not-contains-2.false)).high;
       factor = (in-range structure_factor _ (sym c.contains-3.ensures ∙ c.if-not-contains-3.false)).high;
-      pressure = (in-range pressures _ (sym c.contains-4.ensures ∙ c.if-not-contains-4.false)).high;
+      pressure = (in-range pressures _ (rw c.from-2.ensures at (sym c.contains-4.ensures ∙ c.if-not-contains-4.false))).high;
       stands = rw (← c.of_class.ensures) c.in_ok-test_section.ensures.stands;
     }
