@@ -11,7 +11,7 @@ use force::section::LoadedSection;
 use model::Legs;
 
 // The section stands under the ice.
-#[derive(Clone, Copy)]
+#[derive(Clone, Copy, Debug, PartialEq, Eq)]
 pub struct SoundCase<'a> {
     pub case: &'a Case,
     ghost ice: { case.now.ice ≤ 5 },
