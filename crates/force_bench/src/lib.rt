@@ -36,9 +36,11 @@ pub extern "C" fn force_bench(words: &[u64], rounds: u64) -> u64
     let Ok(sound) = test_case(&case, words.len()) else {
         return u64::MAX;
     };
-    let end = groups_end(&case.section);
-    if words.len() != end + 1 || case.pressure < 15 || LARGEST_ITEMS < words[end] {
+    let Some([items]) = words.get(groups_end(&case.section)..) else {
+        return u64::MAX;
+    };
+    if case.pressure < 15 || LARGEST_ITEMS < *items {
         return u64::MAX;
     }
-    total(sound, words[end], rounds)
+    total(sound, *items, rounds)
 }
