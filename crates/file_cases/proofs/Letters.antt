@@ -30,3 +30,5 @@ unfolding kind_in
 joined-on [] h e = absurd (omega arith)
 joined-on (b ∷ []) h e = absurd (omega arith)
 joined-on (b ∷ space ∷ s) h e = rw (ne_eqb space 32 e)
+
+pub ruleset letters = (nothing, alone, spaced, joined-on)

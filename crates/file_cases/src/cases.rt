@@ -29,12 +29,12 @@ fn kind_byte(b: u8) -> Option<Kind>
     }
 }
 
+#[tactic(auto, using(crate::proofs::Letters::letters))]
 pub(crate) fn kind_of(line: &[u8]) -> Option<Kind>
     ensures { result ≡ kind_in line.now }
 {
     match line {
-        [b] => kind_byte(*b),
-        [b, space, ..] if *space == b' ' => kind_byte(*b),
+        [b] | [b, b' ', ..] => kind_byte(*b),
         _ => None,
     }
 }
@@ -47,7 +47,7 @@ pub(crate) fn numbers_in<'a>(
 ) -> Result<&'a [u64], Wrong> {
     match line.get(2..) {
         Some(text) => Ok(numbers_of(text, out)?),
-        None if kind == Kind::File => Ok(&out[..0]),
+        None if kind == Kind::File => Ok(&[]),
         None => Err(Wrong::Count),
     }
 }

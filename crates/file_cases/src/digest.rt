@@ -39,6 +39,7 @@ impl Values for u64 {
 impl Values for Group {
     ghost values = { group_values };
 
+    #[tactic(auto, unfolding(model::specs::Lists::joined))]
     fn mix_into(&self, d: u64) -> u64 {
         let kind = u64::from(self.member.kind());
         let size = u64::from(self.member.size().0);
@@ -50,6 +51,7 @@ impl Values for Group {
 impl Values for Section {
     ghost values = { λ section. section_values (section_of section) };
 
+    #[tactic(auto, unfolding(model::specs::Lists::joined, lines::specs::Digest::digest))]
     fn mix_into(&self, d: u64) -> u64 {
         let d = mix_each(
             d,
@@ -67,6 +69,7 @@ impl Values for Section {
 impl Values for Item {
     ghost values = { item_values };
 
+    #[tactic(auto, unfolding(model::specs::Lists::joined))]
     fn mix_into(&self, d: u64) -> u64 {
         mix_each(
             d,

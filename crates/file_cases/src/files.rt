@@ -15,7 +15,7 @@ pub(crate) fn bytes_of(numbers: &[u64]) -> Result<File, Wrong>
     let mut file = File::new();
     for n in numbers {
         let byte = u8::try_from(*n).map_err(|_| Wrong::Byte)?;
-        file.try_push(byte).map_err(|_| Wrong::Range)?;
+        file.try_push(byte)?;
     }
     Ok(file)
 }
@@ -34,13 +34,13 @@ pub(crate) fn longer(base: &[u8], numbers: &[u64]) -> Result<File, Wrong>
 pub(crate) fn changed(base: &[u8], numbers: &[u64]) -> Result<File, Wrong>
     ensures { IfOk result (λ file. array_vec_len file ≡ length base.now) }
 {
-    if numbers.len() % 2 != 0 {
+    let (pairs, []) = numbers.as_chunks::<2>() else {
         return Err(Wrong::Count);
-    }
+    };
     let mut file = File::try_from(base)?;
-    for pair in numbers.chunks_exact(2) {
-        let byte = file.get_mut(pair[0] as usize).ok_or(Wrong::Range)?;
-        *byte = u8::try_from(pair[1]).map_err(|_| Wrong::Byte)?;
+    for [at, byte] in pairs {
+        let place = file.get_mut(*at as usize).ok_or(Wrong::Range)?;
+        *place = u8::try_from(*byte).map_err(|_| Wrong::Byte)?;
     }
     Ok(file)
 }

@@ -19,7 +19,7 @@ mod wrong;
 
 use crate::answers::{Answer, answer_file, answer_room};
 use crate::cases::{Kind, kind_of, numbers_in};
-use crate::files::{File, at_most, bytes_of, changed, longer};
+use crate::files::{File, MOST_BYTES, at_most, bytes_of, changed, longer};
 use crate::wrong::Wrong;
 use lines::input::read_within;
 use std::io;
@@ -29,7 +29,7 @@ const MOST_INPUT: u32 = 500_000;
 // f makes its file the base.
 fn answer_line(line: &[u8], base: &mut File) -> Result<Answer, Wrong> {
     let kind = kind_of(line).ok_or(Wrong::Case)?;
-    let mut numbers = [0; files::MOST_BYTES];
+    let mut numbers = [0; MOST_BYTES];
     let numbers = numbers_in(kind, line, &mut numbers)?;
     match kind {
         Kind::File => {
@@ -39,7 +39,7 @@ fn answer_line(line: &[u8], base: &mut File) -> Result<Answer, Wrong> {
         Kind::First => answer_file(&base[..at_most(base.len(), numbers)?]),
         Kind::Changed => answer_file(&changed(base, numbers)?),
         Kind::Longer => answer_file(&longer(base, numbers)?),
-        Kind::Room => answer_room(base, at_most(files::MOST_BYTES, numbers)?),
+        Kind::Room => answer_room(base, at_most(MOST_BYTES, numbers)?),
     }
 }
 

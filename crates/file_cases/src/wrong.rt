@@ -21,8 +21,8 @@ impl From<NumbersError> for Wrong {
 }
 
 // There is no room for a file's bytes.
-impl From<CapacityError> for Wrong {
-    fn from(_error: CapacityError) -> Wrong {
+impl<T: Drop> From<CapacityError<T>> for Wrong {
+    fn from(_error: CapacityError<T>) -> Wrong {
         Wrong::Range
     }
 }
@@ -35,17 +35,13 @@ impl From<Refusal> for Wrong {
 
 impl fmt::Display for Wrong {
     fn fmt<W: fmt::Write>(&self, f: &mut fmt::Formatter<W>) -> fmt::Result {
-        let fault = match self {
-            Wrong::Refused(refusal) => return write!(f, "refused {}", u32::from(*refusal)),
-            Wrong::Case => "not a case",
-            Wrong::Numbers(NumbersError::Bad) =>
-                "not decimal numbers with single spaces between them",
-            Wrong::Numbers(NumbersError::Large) => "a number is too large",
-            Wrong::Numbers(NumbersError::Many) => "there are too many numbers",
-            Wrong::Count => "numbers are missing or left over",
-            Wrong::Byte => "a byte is above 255",
-            Wrong::Range => "out of range",
-        };
-        write!(f, "error: {fault}")
+        match self {
+            Wrong::Case => f.write_str("error: not a case"),
+            Wrong::Numbers(error) => write!(f, "error: {error}"),
+            Wrong::Count => f.write_str("error: numbers are missing or left over"),
+            Wrong::Byte => f.write_str("error: a byte is above 255"),
+            Wrong::Range => f.write_str("error: out of range"),
+            Wrong::Refused(refusal) => write!(f, "refused {}", u32::from(*refusal)),
+        }
     }
 }
