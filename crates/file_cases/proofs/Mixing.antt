@@ -1,7 +1,7 @@
 -- Digests of lists, element by element.
 use Prim.Native.Nat.{ℕ, ◌+◌, ◌<◌}
-use mathlib.Core.Path.{◌≡◌, refl, ap, sym, ◌∙◌}
-use mathlib.Core.List.{List, [], ◌∷◌, ◌++◌, map}
+use mathlib.Core.Path.{◌≡◌, refl, sym, ◌∙◌}
+use mathlib.Core.List.{List, [], ◌∷◌, ◌++◌}
 use lib.ListN.{length, get_or, take}
 use Rattle.std.proofs.lemmas.List.{take_more}
 use Rattle.model.specs.Lists.{joined}
@@ -18,11 +18,6 @@ module _ {A : Type 0} (f : A → List ℕ) where
   pub mixed_more : (d e r : ℕ) (l : List A) (i : ℕ) (x : A) → i < length l → x ≡ get_or l i x → e ≡ digest d (joined f (take i l))
       → r ≡ digest e (f x) → r ≡ digest d (joined f (take (i + 1) l))
   mixed_more d e r l i x h k p q = rw (take_more l i x h, ← k, joined-more, digest-append, ← p) q
-
-pub joined-map : {A B : Type 0} (f : B → List ℕ) (g : A → B) (l : List A) → joined (λ x. f (g x)) l ≡ joined f (map g l)
-unfolding joined
-joined-map f g [] = refl
-joined-map f g (x ∷ l) = ap (λ m. f (g x) ++ m) (joined-map f g l)
 
 -- a tower's numbers: its head, its sections, how many items, and the items
 pub digest_parts : (d : ℕ) (head sections : List ℕ) (n : ℕ) (items : List ℕ)

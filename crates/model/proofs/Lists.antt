@@ -1,16 +1,16 @@
 -- Sums over lists and over indices; tests over lists; nothing of it depends on the order.
 use Prim.Native.Nat.{ℕ, zero, suc, ◌+◌, ◌*◌, ◌≤◌, ◌<◌}
 use mathlib.Core.Path.{◌≡◌, refl, ap, sym, ◌∙◌}
-use mathlib.Core.Bool.{Bool, true, false, cond, ◌&&◌, ◌||◌, and-false, and_assoc, and_comm, or_assoc, or_comm}
+use mathlib.Core.Bool.{Bool, true, false, cond, ◌&&◌, ◌||◌, and_assoc, and_comm, or_assoc, or_comm}
 use mathlib.Core.List.{List, [], ◌∷◌, ◌++◌, map, Permᴰ, Forall₂}
 use mathlib.Core.Logic.{⊎_elim}
 use native.Mathlib.Numerals.{add-one}
 use native.Mathlib.Omega.{arith}
-use lib.ListN.{length, get_or, set, take, drop, length-append, length-map, take-append-drop}
-use lib.Seq.{take-suc, get_or-take, length-take-le}
+use lib.ListN.{length, get_or, set, take, drop, length-append, take-append-drop}
+use lib.Seq.{take-suc}
 pub use Rattle.std.proofs.lemmas.List.Folds.{list_all-append as all-of-append, list_any-append as any_append, list_all_more as all_more}
 pub use Rattle.std.proofs.lemmas.List.Elements.{filter-append as kept_append}
-use Rattle.model.specs.Lists.{any_of, all_of, kept, sum_by, sum_to, list_to}
+use Rattle.model.specs.Lists.{any_of, all_of, kept, joined, sum_by, sum_to, list_to}
 use Rattle.exact.specs.Number.{Every, none, also, Some, this}
 use Rattle.exact.proofs.Bools.{and_split, and-join, or_split, or-join}
 use Rattle.exact.proofs.Order.{le-or-lt}
@@ -111,6 +111,12 @@ some-list_to f zero p h = absurd (omega arith)
 some-list_to f (suc n) p h =
     ⊎_elim (λ g. let e : n ≡ p = omega arith in some_right (list_to f n) (this (ap f e))) (λ g. some_left (f n ∷ []) (some-list_to f n p g)) (le-or-lt n p)
 
+-- each part's own part first, or that of all parts
+pub joined-map : {A B C : Type 0} (f : B → List C) (g : A → B) (l : List A) → joined (λ x. f (g x)) l ≡ joined f (map g l)
+unfolding joined
+joined-map f g [] = refl
+joined-map f g (x ∷ l) = ap (λ m. f (g x) ++ m) (joined-map f g l)
+
 -- what holds of all, and of the default, holds of each that is read
 pub get_or-all : {A : Type 0} (p : A → Bool) (l : List A) (i : ℕ) (d : A) → all_of p l ≡ true → p d ≡ true → p (get_or l i d) ≡ true
 get_or-all p [] i d h g = g
@@ -137,18 +143,7 @@ all_append p (x ∷ xs) ys h g =
 pub all-grow : {A : Type 0} (p : A → Bool) (l : List A) (a : A) → all_of p l ≡ true → p a ≡ true → all_of p (l ++ (a ∷ [])) ≡ true
 all-grow p l a h t = all_append p l (a ∷ []) h (and-join t refl)
 
--- arrays: the length, from what is known of a parameter
-pub length-mapped : (X Y : Type 0) (f : X → Y) (l : List X) (n : ℕ) → length (map f l) ≡ n → length l ≡ n
-length-mapped X Y f l n e = rw length-map at e
-
 module _ {A : Type 0} (p : A → Bool) where
-  -- a test that holds of the first n holds of each of them
-  pub taken_at : (l : List A) (n i : ℕ) (d : A) → i < n → n ≤ length l → all_of p (take n l) ≡ true → p (get_or l i d) ≡ true
-  taken_at l n i d h g t =
-      let k : i < length (take n l) = omega (arith, length-take-le n l g) in
-      let e : p (get_or (take n l) i d) ≡ true = all-at p (take n l) i d k t in
-      rw (get_or-take) at e
-
   pub all-parts : (xs ys : List A) → all_of p (xs ++ ys) ≡ true → (all_of p xs ≡ true) × (all_of p ys ≡ true)
   all-parts xs ys h = and_split (all_of p xs) (all_of p ys) (sym (all-of-append p xs ys) ∙ h)
 
@@ -164,13 +159,6 @@ module _ {A : Type 0} (p : A → Bool) where
   all_set (x ∷ xs) (suc i) a h q =
       let k : _ = and_split (p x) (all_of p xs) h in
       and-join k.0 (all_set xs i a k.1 q)
-
-  -- one that fails of one of the first n fails of them together
-  pub all-fails : (l : List A) (n i : ℕ) (d : A) → i < n → n ≤ length l → p (get_or l i d) ≡ false → all_of p (take n l) ≡ false
-  all-fails [] n i d h g f = absurd (omega arith)
-  all-fails (x ∷ xs) zero i d h g f = absurd (omega arith)
-  all-fails (x ∷ xs) (suc n) zero d h g f = rw f
-  all-fails (x ∷ xs) (suc n) (suc i) d h g f = rw (all-fails xs n i d (omega arith) (omega arith) f) (and-false (p x))
 
 -- a test that holds of all, from one that says more
 pub all_weaker : {A : Type 0} (p q : A → Bool) → ((x : A) → p x ≡ true → q x ≡ true) → (l : List A) → all_of p l ≡ true → all_of q l ≡ true

@@ -1,7 +1,7 @@
 -- The parts of a tower's file, of the tower as a program holds it.
 use Prim.Native.Nat.{ℕ, ◌+◌, ◌<◌, ◌≤◌}
-use mathlib.Core.Path.{◌≡◌, refl, ap, sym, ◌∙◌}
-use mathlib.Core.List.{List, [], ◌∷◌, ◌++◌, map, append_assoc}
+use mathlib.Core.Path.{◌≡◌, ap, sym, ◌∙◌}
+use mathlib.Core.List.{List, [], ◌∷◌, ◌++◌, append_assoc}
 use mathlib.Core.Option.{none}
 use native.Mathlib.Omega.{arith}
 use lib.ListN.{length, length-append, length-map}
@@ -17,14 +17,10 @@ use Rattle.model.specs.Machine.{standing, filled}
 use Rattle.model.specs.Calls as call
 use Rattle.model.specs.Answers.{accepts}
 use Rattle.model.proofs.FileLength.{length-bytes}
+use Rattle.model.proofs.Lists.{joined-map}
 use Rattle.model.proofs.Says.{refused-reply, accepted-reply}
 use Rattle.file_fields.specs.Written.{Puts}
 use Rattle.tower_file.specs.Written.{WritesFile}
-
-joined-map : {A B : Type 0} (f : B → List ℕ) (g : A → B) (l : List A) → joined (λ x. f (g x)) l ≡ joined f (map g l)
-unfolding joined
-joined-map f g [] = refl
-joined-map f g (x ∷ l) = ap (λ m. f (g x) ++ m) (joined-map f g l)
 
 abbrev pub stored_bytes : stored-section.Section → List ℕ
 stored_bytes s = section_bytes (section_of s)

@@ -3,9 +3,10 @@ use Rattle.std.proofs.lemmas.List.{length-map}
 use Rattle.model.specs.Lists.{joined}
 use Rattle.model.specs.Bytes.{legs_number}
 use Rattle.model.specs.Tower.{section_of}
+use Rattle.model.proofs.Lists.{joined-map}
 use Rattle.lines.specs.Digest.{start}
 use Rattle.file_cases.specs.Digest.{section_values, item_values}
-use Rattle.file_cases.proofs.Mixing.{joined-map, digest_parts}
+use Rattle.file_cases.proofs.Mixing.{digest_parts}
 use Rattle.file_cases.proofs.digest.tower_digest.Goals as goal
 
 pub returns : goal.returns
