@@ -11,7 +11,7 @@ use service::changes::{erect, hang, set_wind, take_down};
 use slots::State;
 use slots::head::{count_in, is_standing, legs_in};
 use slots::items::{item_slots, number_in};
-use slots::wind::wind_numbers;
+use slots::wind::has_wind;
 
 // More bytes than any file has: the largest tower's has 2915.
 const FILE_ROOM: usize = 3000;
@@ -117,7 +117,7 @@ fn call_wind(s: &mut State, key: Key) -> Result<(), Refusal> {
 // The call at a place of a list.
 pub(crate) fn drawn_call(s: &mut State, list: Key, place: u64) -> Told {
     let key = list.part(place);
-    let kind = CallKind::drawn(key, is_standing(s), wind_numbers(s).is_some());
+    let kind = CallKind::drawn(key, is_standing(s), has_wind(s));
     let key = key.part(2);
     match kind {
         CallKind::Erect { sound } => erect(s, &drawn_file(list, key, sound).bytes).into(),

@@ -9,7 +9,7 @@ use model::Section;
 use slots::State;
 use slots::head::legs_in;
 use slots::sections::{least, section_as};
-use slots::wind::{pressure_at, wind_numbers};
+use slots::wind::{pressure_at, standing_wind};
 use units::{Force, Length};
 
 // The load on a section, with the section's height and allowance.
@@ -53,7 +53,7 @@ impl<'a> LoadedTower<'a> {
         ensures stands { is_some result ≡ is_windy (ground_of state.now) }
         ensures state { IfSome result (λ t. t.state.now ≡ state.now) }
     {
-        let wind = wind_numbers(state)?;
+        let wind = standing_wind(state)?;
         let case = LoadCase {
             legs: legs_in(state),
             direction: wind.direction,

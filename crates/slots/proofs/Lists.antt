@@ -1,7 +1,7 @@
 -- Lists that are given by their elements.
 use Prim.Native.Nat.{ℕ, zero, suc, ◌+◌, ◌-◌, ◌≤◌, ◌<◌}
 use mathlib.Core.Path.{◌≡◌, refl, ap, sym, ◌∙◌}
-use mathlib.Core.Bool.{Bool, true, false, ◌&&◌, ◌||◌}
+use mathlib.Core.Bool.{Bool, true, false, ◌&&◌}
 use mathlib.Core.List.{List, [], ◌∷◌, ◌++◌, map, map-append}
 use mathlib.Core.Logic.{⊎_elim}
 use native.Mathlib.Nat.{eq-or-lt_of_le}
@@ -58,10 +58,6 @@ filled f l d j n x e h k =
 and-only : (a b : Bool) → (a && (b && true)) ≡ (a && b)
 and-only a true = refl
 and-only a false = refl
-
-or-only : (a b : Bool) → (a || (b || false)) ≡ (a || b)
-or-only a true = refl
-or-only a false = refl
 
 module _ {A : Type 0} (p : A → Bool) (f : ℕ → A) where
   pub all-next : (n : ℕ) → all_of p (list_to f (n + 1)) ≡ (all_of p (list_to f n) && p (f n))

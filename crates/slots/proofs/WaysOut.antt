@@ -5,6 +5,9 @@ use mathlib.Core.Bool.{Bool, true, false}
 use mathlib.Core.List.{List}
 use native.Mathlib.Omega.{arith}
 use Rattle.model.specs.declared.Refusal.{Refusal}
+use Rattle.std.specs.Prelude.{Result, Err}
+use Rattle.std.specs.Result.{IsErrAnd}
+use Rattle.std.proofs.lemmas.Result.{err_from_is_err_and}
 use Rattle.model.specs.Answers.{Reply, refusal_number, accepts, refuses}
 use Rattle.model.specs.Machine.{State, refuse_if}
 use Rattle.model.specs.Calls.{Call, meaning, refusal_of, step, reply_of, lent_before, lent_after}
@@ -25,6 +28,12 @@ turned_down c l e h =
       untouched = λ z. refl;
       left = λ i j z. refl;
     }
+
+-- a refusal that is handed on by `?`
+pub handed_on : {A : Type 0} (r : Result A Refusal) (e : Refusal) → IsErrAnd r (λ y. y ≡ e) → r ≡ Err e
+handed_on r e h =
+    let y = err_from_is_err_and r h in
+    rw (y.1, y.2) refl
 
 -- a call that is accepted: with the machine's next state, in its reply the machine's values
 pub accepted : (c : Call) (l after : Slots) {lent : List ℕ} → refusal_of (state_of l) c ≡ 0 → state_of after ≡ step (state_of l) c

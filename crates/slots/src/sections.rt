@@ -2,13 +2,14 @@
 ghost use Rattle.std.specs.Prelude.{◌≡◌, true, ◌+◌, ◌*◌, ◌≤◌, ◌<◌, length, map};
 ghost use Rattle.model.specs.Tower as tower;
 ghost use Rattle.units.specs.declared.Length.{Length};
-ghost use Rattle.model.specs.Valid.{section_fits};
+ghost use Rattle.model.specs.Lists.{all_of};
+ghost use Rattle.model.specs.Valid.{group_fits, section_fits};
 ghost use Rattle.areas.specs.Fits.{fits_under};
 ghost use Rattle.slots.specs.Held.{slot, group_in, group_number, section_in, section_as, section_at, field_slot, group_slot, least_section, PutSection};
 
 use crate::{Slot, State};
 use areas::ice::Ice;
-use areas::ranges::{fits_under, group_fits};
+use areas::ranges::fits_under;
 use arrayvec::ArrayVec;
 use model::ranges::GROUP_COUNT;
 use model::{Group, Member, Section};
@@ -46,14 +47,11 @@ fn group_of(x: u32) -> Group
     }
 }
 
-// A group that is out of range is none.
 #[tactic(auto, unfolding(crate::specs::Held::group_number))]
 fn group_number(group: Group) -> u32
+    requires { group_fits group ≡ true }
     ensures { result ≡ group_number group }
 {
-    if !group_fits(group) {
-        return 0;
-    }
     group.member.kind() + 2 * group.member.size().0 + 2048 * group.length.0
 }
 
@@ -125,7 +123,8 @@ fn field_slot(section: &Section, q: u16) -> Slot
 }
 
 fn group_slot(groups: &[Group]) -> Slot
-    requires { length groups.now ≤ 8 }
+    requires few { length groups.now ≤ 8 }
+    requires fit { all_of group_fits groups.now ≡ true }
     ensures { result ≡ group_slot groups.now }
 {
     let mut slot = [0; 12];

@@ -28,20 +28,32 @@ fn numbers_fit(legs: Legs, w: WindNumbers) -> bool
         && STRUCTURE_FACTOR.contains(w.factor)
 }
 
+// As they stand in slot 0.
+pub fn wind_numbers(s: &State) -> WindNumbers
+    ensures { (result.direction ≡ cell s.now 0 5) × (result.ice ≡ cell s.now 0 6) × (result.factor ≡ cell s.now 0 7) }
+{
+    WindNumbers {
+        direction: s[0][DIRECTION],
+        ice: s[0][ICE],
+        factor: s[0][FACTOR],
+    }
+}
+
+#[tactic(auto, unfolding(crate::specs::Held::ground_of))]
+pub fn has_wind(s: &State) -> bool
+    ensures { result ≡ is_windy (ground_of s.now) }
+{
+    s[0][WINDY] == 1 && numbers_fit(legs_in(s), wind_numbers(s))
+}
+
 // Those of the wind that stands, where one does.
 #[tactic(auto, unfolding(crate::specs::Held::ground_of))]
-pub fn wind_numbers(s: &State) -> Option<WindNumbers>
+pub fn standing_wind(s: &State) -> Option<WindNumbers>
     ensures stands { is_some result ≡ is_windy (ground_of s.now) }
     ensures numbers { IfSome result (λ w. (w.direction ≡ cell s.now 0 5) × (w.ice ≡ cell s.now 0 6) × (w.factor ≡ cell s.now 0 7)) }
     ensures in_range { IfSome result (λ w. (w.ice ≤ 5) × (w.factor ≤ 2000)) }
 {
-    let w = WindNumbers {
-        direction: s[0][DIRECTION],
-        ice: s[0][ICE],
-        factor: s[0][FACTOR],
-    };
-    let stands = s[0][WINDY] == 1 && numbers_fit(legs_in(s), w);
-    stands.then_some(w)
+    has_wind(s).then_some(wind_numbers(s))
 }
 
 // The ice that the sections stand under.
@@ -49,7 +61,7 @@ pub fn wind_numbers(s: &State) -> Option<WindNumbers>
 pub fn ice_on(s: &State) -> Ice
     ensures { result.thickness ≡ ice_on (ground_of s.now) }
 {
-    Ice::of_class(wind_numbers(s).map_or(0, |w| w.ice))
+    Ice::of_class(standing_wind(s).map_or(0, |w| w.ice))
 }
 
 // The pressure on section i.
