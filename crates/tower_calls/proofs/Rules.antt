@@ -5,7 +5,7 @@ use Rattle.model.specs.Lists.{all_of, any_of, list_to}
 use Rattle.model.specs.Tower.{Wind}
 use Rattle.model.specs.Ranges.{within, ice_classes, structure_factor, pressures}
 use Rattle.model.specs.File.{legs_of}
-use Rattle.model.specs.Machine.{State, standing, direction_fits, is_too_solid, wind_refusal}
+use Rattle.model.specs.Machine.{direction_fits, is_too_solid}
 use Rattle.model.specs.Calls.{wind, refusal_of}
 use Rattle.slots.specs.Held.{Slots, cell, is_standing, count_in, section_at, ground_of, ice_on, tower_in, state_of}
 use Rattle.slots.proofs.WaysOut.{refusal-of, met, unmet}

@@ -1,24 +1,22 @@
 -- The rules of wind over the slots.
-use Rattle.std.proofs.Common.{◌≡◌, ℕ, zero, suc, ◌≤◌, Bool, true, false, not, ◌&&◌, ◌||◌, leb, ltb, List, [], ◌∷◌, map, length, eqb, refl, ap, sym, ◌∙◌, add-one, arith}
-use Rattle.std.specs.List.{list_all, range_with_len}
+use Rattle.std.proofs.Common.{◌≡◌, ℕ, zero, suc, Bool, true, false, not, ◌&&◌, ◌||◌, leb, ltb, List, map, length, eqb, refl, ap, sym, ◌∙◌, add-one, arith}
+use Rattle.std.specs.List.{range_with_len}
 use Rattle.std.proofs.lemmas.Bool.Decides.{nat_tests}
 use Rattle.std.proofs.lemmas.List.Folds.{list_all-map}
 use Rattle.std.proofs.lemmas.List.FromFn.{map-range_with_len_more}
-use Rattle.std.proofs.Math.Bool.{not-not}
-use borrow.Author.Tests.{leb-true, leb-false, le-leb, lt-ltb, le-ltb}
+use borrow.Author.Tests.{leb-true, leb-false, lt-ltb, le-ltb}
 use Rattle.units.specs.declared.Length.{Length}
-use Rattle.model.specs.declared.Section as stored
 use Rattle.model.specs.Lists.{all_of, any_of, list_to}
 use Rattle.model.specs.Areas.{thickness, gross, solid_of}
-use Rattle.model.specs.Tower.{Section, Wind, section_of}
+use Rattle.model.specs.Tower.{Section, Wind}
 use Rattle.model.specs.Ranges.{within, ice_classes, structure_factor, pressures}
 use Rattle.model.specs.File.{legs_of}
+use Rattle.model.specs.Valid.{section_fits}
 use Rattle.model.specs.Machine.{direction_fits, is_too_solid, refuse_if, wind_refusal}
-use Rattle.areas.specs.Fits.{fits_under}
-use Rattle.areas.proofs.Fits.{under-facts}
-use Rattle.slots.specs.Held.{Slots, NextCell, cell, is_standing, count_in, section_at, ground_of, ice_on, tower_in, state_of}
-use Rattle.slots.proofs.Grounds.{fallen, standing-as, section-count, sections-are}
-use Rattle.tower_calls.specs.Placed.{WindHead}
+use Rattle.model.proofs.Lists.{all-of-append, any_append}
+use Rattle.slots.specs.Held.{Slots, NextCell, cell, is_standing, count_in, stands_under, section_at, ground_of, ice_on, tower_in, state_of}
+use Rattle.slots.proofs.Grounds.{fallen, standing-as, section-count, sections-are, ice-thin, section-fits}
+use Rattle.tower_calls.specs.Placed.{all_stand, WindHead}
 
 -- "A_S is at most A_u" is the opposite of "too solid"
 pub leb-ltb : (a b : ℕ) → leb a b ≡ not (ltb b a)
@@ -27,15 +25,6 @@ leb-ltb a b = by-case (leb a b) refl
     by-case : (x : Bool) → leb a b ≡ x → x ≡ not (ltb b a)
     by-case true e = rw (le-ltb b a (leb-true a b e))
     by-case false e = rw (lt-ltb b a (leb-false a b e))
-
--- of a section that stands under some ice, the test under ice of a class
-pub under-class : (t : Length) (class : ℕ) (x : stored.Section) {s : Section} {iced : Length} → class ≤ 5 → iced ≡ thickness class
-    → section_of x ≡ s → fits_under t x ≡ true → fits_under iced x ≡ not (is_too_solid class s)
-unfolding fits_under
-under-class t class x h e k f =
-    let u : _ = under-facts t x f in
-    rw (e, le-leb (thickness class).0 50 (omega arith), u.fits)
-    (leb-ltb (solid_of (thickness class) (section_of x).groups).0 (gross (section_of x)).0 ∙ ap (λ (y : Section). not (is_too_solid class y)) k)
 
 -- slot 0 with the four numbers of a wind, one after another
 pub wind-head : {h a b c d : List ℕ} {k ice factor : ℕ} → NextCell h 4 1 a → NextCell a 5 k b → NextCell b 6 ice c → NextCell c 7 factor d
@@ -50,27 +39,33 @@ wind-head p q r s =
     }
 
 -- a test of all sections, by their places
-all-not : {A : Type 0} (p : A → Bool) (l : List A) → list_all (λ x. not (p x)) l ≡ not (any_of p l)
-all-not p [] = refl
-all-not p (x ∷ l) = rw (all-not p l) (either (p x) (any_of p l))
-  where
-    either : (a b : Bool) → (not a && not b) ≡ not (a || b)
-    either true b = refl
-    either false b = refl
-
 list_to-range : {A : Type 0} (f : ℕ → A) (n : ℕ) → list_to f n ≡ map f (range_with_len 0 n)
 unfolding list_to
 list_to-range f zero = refl
 list_to-range f (suc n) = rw (list_to-range f n) (sym (rw add-one at (map-range_with_len_more f 0 n n (omega arith))))
 
-pub sections-fit : (l : Slots) (class : ℕ)
-    → list_all (λ i. not (is_too_solid class (section_at l (ice_on (ground_of l)) i))) (range_with_len 0 (count_in l))
-    ≡ not (any_of (is_too_solid class) (tower_in l).sections)
-sections-fit l class =
+all-stand : (l : Slots) (t : Length) → all_stand t l ≡ all_of (stands_under t) (tower_in l).sections
+unfolding all_stand
+all-stand l t =
     let f : ℕ → Section = section_at l (ice_on (ground_of l)) in
-    sym (list_all-map (λ (s : Section). not (is_too_solid class s)) f (range_with_len 0 (count_in l)))
-    ∙ all-not (is_too_solid class) (map f (range_with_len 0 (count_in l)))
-    ∙ ap (λ (m : List Section). not (any_of (is_too_solid class) m)) (sym (sections-are l ∙ list_to-range f (count_in l)))
+    sym (list_all-map (stands_under t) f (range_with_len 0 (count_in l)))
+    ∙ ap (all_of (stands_under t)) (sym (sections-are l ∙ list_to-range f (count_in l)))
+
+-- all that are in their ranges stand exactly if none is too solid
+module _ (class : ℕ) (f : ℕ → Section) (fits : (i : ℕ) → section_fits (f i) ≡ true) where
+  stands : (i : ℕ) → stands_under (thickness class) (f i) ≡ not (is_too_solid class (f i))
+  stands i = rw (fits i) (leb-ltb (solid_of (thickness class) (f i).groups).0 (gross (f i)).0)
+
+  none-solid : (n : ℕ) → any_of (is_too_solid class) (list_to f n) ≡ not (all_of (stands_under (thickness class)) (list_to f n))
+  unfolding list_to
+  none-solid zero = refl
+  none-solid (suc n) =
+      rw (all-of-append, any_append, none-solid n, stands n) (either (all_of (stands_under (thickness class)) (list_to f n)) (is_too_solid class (f n)))
+    where
+      either : (a b : Bool) → (not a || (b || false)) ≡ not (a && (not b && true))
+      either true true = refl
+      either true false = refl
+      either false b = refl
 
 -- the rules over what the slots tell
 pub refusal_fallen : (l : Slots) (w : Wind) → is_standing l ≡ false → wind_refusal (state_of l) w ≡ 1
@@ -83,12 +78,12 @@ pub refusal_told : (l : Slots) (w : Wind) → is_standing l ≡ true
     (refuse_if (not (within structure_factor w.factor)) 17
     (refuse_if (not (eqb (length w.pressures) (count_in l))) 18
     (refuse_if (not (all_of (within pressures) w.pressures)) 19
-    (refuse_if (not (all_of (λ i. not (is_too_solid w.ice (section_at l (ice_on (ground_of l)) i))) (range_with_len 0 (count_in l)))) 20 0)))))
+    (refuse_if (not (all_stand (thickness w.ice) l)) 20 0)))))
 unfolding ground_of
 refusal_told l w s =
-    let solid : any_of (is_too_solid w.ice) (tower_in l).sections
-    ≡ not (all_of (λ i. not (is_too_solid w.ice (section_at l (ice_on (ground_of l)) i))) (range_with_len 0 (count_in l))) =
-    sym (ap not (sections-fit l w.ice) ∙ not-not _) in
+    let ice = ice_on (ground_of l) in
+    let solid : any_of (is_too_solid w.ice) (tower_in l).sections ≡ not (all_stand (thickness w.ice) l) =
+    rw (all-stand l (thickness w.ice), sections-are l) (none-solid w.ice (section_at l ice) (section-fits l ice (ice-thin l)) (count_in l)) in
     rw (standing-as l s, section-count l, solid) refl
 
 pub ruleset wind_rules = (refusal_fallen, refusal_told, nat_tests)

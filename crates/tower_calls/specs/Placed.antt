@@ -1,9 +1,11 @@
 -- A tower, and the numbers of a wind, put into the slots.
-use Rattle.std.specs.Prelude.{ℕ, ◌<◌, ◌≡◌, List, ◌∷◌, map, length, take, drop, get_or, replicate}
+use Rattle.std.specs.Prelude.{ℕ, ◌<◌, ◌≡◌, Bool, List, ◌∷◌, map, length, take, drop, get_or, replicate}
+use Rattle.std.specs.List.{list_all, range_with_len}
+use Rattle.units.specs.declared.Length.{Length}
 use Rattle.model.specs.declared.Item.{Item}
 use Rattle.model.specs.Tower.{Section, Tower}
 use Rattle.model.specs.Bytes.{legs_number}
-use Rattle.slots.specs.Held.{Slots, slot, item_of, least_section}
+use Rattle.slots.specs.Held.{Slots, slot, item_of, least_section, stands_under, section_at, count_in, ground_of, ice_on}
 
 -- section k of a list
 abbrev pub section_in : List Section → ℕ → Section
@@ -18,6 +20,10 @@ pub record PutItems (items : List Item) (before after : Slots) : Type 0 where
   pub long : length after ≡ length before
   pub each : map item_of (take (length items) (drop 65 after)) ≡ items
   pub beside : (j : ℕ) → j < 65 → slot after j ≡ slot before j
+
+-- every section, as it stands under the present ice, stands under ice of thickness t
+unfoldable pub all_stand : Length → Slots → Bool
+all_stand t l = list_all (λ (i : ℕ). stands_under t (section_at l (ice_on (ground_of l)) i)) (range_with_len 0 (count_in l))
 
 -- slot 0 under a wind
 pub record WindHead (before : List ℕ) (k ice factor : ℕ) (after : List ℕ) : Type 0 where

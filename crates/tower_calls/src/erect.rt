@@ -44,7 +44,7 @@ fn head_slot(tower: &Tower) -> Slot
 {
     let mut head = [0; 12];
     head[STANDING] = 1;
-    head[LEGS] = u64::from(tower.legs) as u32;
+    head[LEGS] = tower.legs as u32;
     head[COUNT] = tower.sections.len() as u32;
     head[HELD] = tower.items.len() as u32;
     head

@@ -1,15 +1,13 @@
 // Another wind in place of the last.
-ghost use Rattle.std.specs.Prelude.{◌≡◌, not, ◌≤◌, ◌<◌, length, slice_index};
+ghost use Rattle.std.specs.Prelude.{◌≡◌, ◌≤◌, ◌<◌, length, slice_index};
 ghost use Rattle.model.specs.Lists.{all_of};
 ghost use Rattle.model.specs.Ranges as ranges;
 ghost use Rattle.model.specs.Answers.{answer_number, answer_reply};
-ghost use Rattle.model.specs.Machine as machine;
 ghost use Rattle.model.specs.Calls as call;
 ghost use Rattle.model.specs.Tower.{wind_of};
-ghost use Rattle.std.specs.List.{list_all, range_with_len};
-ghost use Rattle.slots.specs.Held.{count_in, section_at, ground_of, ice_on, state_of, PutSections};
+ghost use Rattle.slots.specs.Held.{stands_under, section_at, ground_of, ice_on, state_of, PutSections};
 ghost use Rattle.slots.specs.Promises.{Meets};
-ghost use Rattle.tower_calls.specs.Placed.{WindHead};
+ghost use Rattle.tower_calls.specs.Placed.{all_stand, WindHead};
 
 use areas::ice::Ice;
 use areas::ranges::fits_under;
@@ -26,22 +24,21 @@ fn pressures_fit(pressures: &[u16]) -> bool
     pressures.iter().all(|q| PRESSURES.contains(u32::from(*q)))
 }
 
-// Whether section i, which stands under the present ice, is not too solid under ice of this class.
-fn section_fits(s: &State, present: Ice, class: u32, i: usize) -> bool
-    requires { (class ≤ 5) × (i < 32) }
-    ensures { result ≡ not (machine.is_too_solid class (section_at s.now present.thickness i)) }
+// Whether section i, as it stands under the present ice, stands under this one.
+fn section_fits(s: &State, present: Ice, ice: Ice, i: usize) -> bool
+    requires { i < 32 }
+    ensures { result ≡ stands_under ice.thickness (section_at s.now present.thickness i) }
 {
-    let ice = Ice::of_class(class);
     fits_under(ice.thickness, &section_at(s, present, i))
 }
 
-// Whether no section is too solid under ice of this class.
-fn sections_fit(s: &State, class: u32) -> bool
-    requires { class ≤ 5 }
-    ensures { result ≡ list_all (λ i. not (machine.is_too_solid class (section_at s.now (ice_on (ground_of s.now)) i))) (range_with_len 0 (count_in s.now)) }
+// Whether every section stands under this ice.
+#[tactic(auto, unfolding(crate::specs::Placed::all_stand))]
+fn sections_fit(s: &State, ice: Ice) -> bool
+    ensures { result ≡ all_stand ice.thickness s.now }
 {
     let present = ice_on(s);
-    (0..count_in(s)).all(|i| section_fits(s, present, class, i))
+    (0..count_in(s)).all(|i| section_fits(s, present, ice, i))
 }
 
 // Document 01's rules of wind, in their order.
@@ -67,7 +64,7 @@ fn validate(s: &State, wind: Wind) -> Result<(), Refusal>
     if !pressures_fit(wind.pressures) {
         return Err(Refusal::Pressure);
     }
-    if !sections_fit(s, wind.ice) {
+    if !sections_fit(s, Ice::of_class(wind.ice)) {
         return Err(Refusal::IcedSolidity);
     }
     Ok(())

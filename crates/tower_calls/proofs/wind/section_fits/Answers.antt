@@ -1,8 +1,9 @@
-use Rattle.std.proofs.Common.{◌∙◌}
-use Rattle.tower_calls.proofs.Winds.{under-class}
+use Rattle.std.proofs.Common.{ap, ◌∙◌}
+use Rattle.slots.specs.Held.{stands_under}
+use Rattle.slots.proofs.Codec.{fits-stands}
 use Rattle.tower_calls.proofs.wind.section_fits.Goals as goal
 
 pub returns : goal.returns
 returns c =
-    let x = c.section_at.ensures in
-    c.fits_under.ensures ∙ under-class c.args.present.thickness c.args.class c.section_at.result c.requires.0 c.of_class-ice.ensures x.0 x.1
+    let t = c.args.ice.thickness in
+    c.fits_under.ensures ∙ fits-stands t c.section_at.result c.args.ice.thin ∙ ap (stands_under t) c.section_at.ensures.0
