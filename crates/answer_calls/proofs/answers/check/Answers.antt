@@ -1,11 +1,10 @@
-use Rattle.std.proofs.lemmas.Result.{err_from_is_err_and}
+use Rattle.slots.proofs.WaysOut.{handed_on}
 use Rattle.answer_calls.proofs.WaysOut.{check-refused, check_done}
 use Rattle.answer_calls.proofs.answers.check.Goals as goal
 
 pub returns-in_err-loaded_tower : goal.returns-in_err-loaded_tower
 returns-in_err-loaded_tower c =
-    let p = err_from_is_err_and c.from_residual.result c.from_residual.ensures.1 in
-    rw (p.1, p.2) (check-refused c.args.s.now _ c.in_err-loaded_tower.ensures.refused)
+    rw (handed_on _ _ c.from_residual.ensures.1) (check-refused c.args.s.now _ c.in_err-loaded_tower.ensures.refused)
 
 pub returns : goal.returns
 returns c =

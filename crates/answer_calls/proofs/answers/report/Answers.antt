@@ -1,12 +1,11 @@
 use Rattle.std.proofs.Common.{arith}
-use Rattle.std.proofs.lemmas.Result.{err_from_is_err_and}
+use Rattle.slots.proofs.WaysOut.{handed_on}
 use Rattle.answer_calls.proofs.WaysOut.{report-refused, report-short, report-done}
 use Rattle.answer_calls.proofs.answers.report.Goals as goal
 
 pub returns-in_err-tower : goal.returns-in_err-tower
 returns-in_err-tower c =
-    let p = err_from_is_err_and c.from_residual.result c.from_residual.ensures.1 in
-    rw (p.1, p.2) (report-refused c.args.s.now _ c.in_err-tower.ensures.refused c.args.out.now)
+    rw (handed_on _ _ c.from_residual.ensures.1) (report-refused c.args.s.now _ c.in_err-tower.ensures.refused c.args.out.now)
 
 pub returns-then-out-count_in : goal.returns-then-out-count_in
 returns-then-out-count_in c =

@@ -1,14 +1,12 @@
 use Rattle.std.proofs.Common.{sym, arith}
-use Rattle.std.proofs.lemmas.Result.{err_from_is_err_and}
 use Rattle.model.specs.Calls.{hang}
-use Rattle.slots.proofs.WaysOut.{turned_down}
+use Rattle.slots.proofs.WaysOut.{handed_on, turned_down}
 use Rattle.item_calls.proofs.WaysOut.{room, in-range, hang-stored}
 use Rattle.item_calls.proofs.hang.hang.Goals as goal
 
 pub returns-in_err-validate : goal.returns-in_err-validate
 returns-in_err-validate c =
-    let p = err_from_is_err_and c.from_residual.result c.from_residual.ensures.1 in
-    rw (p.1, p.2) (turned_down (hang c.args.item) c.args.s.now _ (sym c.in_err-validate.ensures))
+    rw (handed_on _ _ c.from_residual.ensures.1) (turned_down (hang c.args.item) c.args.s.now _ (sym c.in_err-validate.ensures))
 
 pub bounds-s-held : goal.bounds-s-held
 bounds-s-held c = omega (arith, room c.args.s.now c.told-s c.args.item (sym c.in_ok-validate.ensures))

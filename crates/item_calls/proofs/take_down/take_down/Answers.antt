@@ -1,9 +1,8 @@
 use Rattle.std.proofs.Common.{◌≡◌, Some, None, refl, sym, ◌∙◌, arith}
-use Rattle.std.proofs.lemmas.Result.{err_from_is_err_and}
 use Rattle.model.specs.declared.Refusal.TheVariants as refusal
 use Rattle.model.specs.Calls.{take_down}
 use Rattle.slots.proofs.Grounds.{fallen}
-use Rattle.slots.proofs.WaysOut.{turned_down, refusal-of}
+use Rattle.slots.proofs.WaysOut.{handed_on, turned_down, refusal-of}
 use Rattle.item_calls.proofs.Downs.{down-absent, down-closed}
 use Rattle.item_calls.proofs.take_down.take_down.Goals as goal
 
@@ -17,10 +16,9 @@ pub returns-in_err-place : goal.returns-in_err-place
 returns-in_err-place c =
     let b = c.args in
     let up = sym c.is_standing.ensures ∙ c.if-not-is_standing.false in
-    let p = err_from_is_err_and c.from_residual.result c.from_residual.ensures.1 in
     let absent : c.place_of.result ≡ None = grind arith in
     let error : c.in_err-place.field-0.0 ≡ refusal.NoSuchItem = grind arith in
-    rw (p.1, p.2, error)
+    rw (handed_on _ _ c.from_residual.ensures.1, error)
     (turned_down (take_down b.number) b.s.now refusal.NoSuchItem (down-absent b.s.now c.told-s up b.number c.item_slots.ensures.slots c.place_of.ensures absent))
 
 pub returns : goal.returns

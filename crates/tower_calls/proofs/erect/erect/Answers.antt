@@ -1,14 +1,13 @@
 use Rattle.std.proofs.Common.{arith}
-use Rattle.std.proofs.lemmas.Result.{err_from_is_err_and}
 use Rattle.model.proofs.Accepted.{accepted-valid}
 use Rattle.tower_file.proofs.Filed.{all-bytes}
+use Rattle.slots.proofs.WaysOut.{handed_on}
 use Rattle.tower_calls.proofs.Erects.{file-refused, file-accepted}
 use Rattle.tower_calls.proofs.erect.erect.Goals as goal
 
 pub returns-in_err-tower : goal.returns-in_err-tower
 returns-in_err-tower c =
-    let p = err_from_is_err_and c.from_residual.result c.from_residual.ensures.1 in
-    rw (p.1, p.2) (file-refused c.args.s.now c.args.file.now _ c.in_err-tower.ensures.tower)
+    rw (handed_on _ _ c.from_residual.ensures.1) (file-refused c.args.s.now c.args.file.now _ c.in_err-tower.ensures.tower)
 
 pub put_tower-requires : goal.put_tower-requires
 put_tower-requires c =

@@ -1,16 +1,14 @@
 use Rattle.std.proofs.Common.{sym, arith}
-use Rattle.std.proofs.lemmas.Result.{err_from_is_err_and}
 use Rattle.model.specs.Tower.{wind_of}
 use Rattle.model.specs.Calls.{wind}
 use Rattle.slots.proofs.Grounds.{count-few}
-use Rattle.slots.proofs.WaysOut.{turned_down}
+use Rattle.slots.proofs.WaysOut.{handed_on, turned_down}
 use Rattle.tower_calls.proofs.WindPut.{wind-taken, wind-put}
 use Rattle.tower_calls.proofs.wind.set_wind.Goals as goal
 
 pub returns-in_err-validate : goal.returns-in_err-validate
 returns-in_err-validate c =
-    let p = err_from_is_err_and c.from_residual.result c.from_residual.ensures.1 in
-    rw (p.1, p.2) (turned_down (wind (wind_of c.args.wind)) c.args.s.now _ (sym c.in_err-validate.ensures))
+    rw (handed_on _ _ c.from_residual.ensures.1) (turned_down (wind (wind_of c.args.wind)) c.args.s.now _ (sym c.in_err-validate.ensures))
 
 pub put_pressures-requires : goal.put_pressures-requires
 put_pressures-requires c =
