@@ -1,24 +1,23 @@
 -- Pressures of 2 bytes each, high byte first.
-use Prim.Native.Nat.{ℕ, ◌+◌, ◌*◌, ◌<◌}
-use mathlib.Core.Path.{◌≡◌, refl}
-use mathlib.Core.List.{List, [], ◌∷◌, ◌++◌}
+use Prim.Native.Nat.{ℕ, zero, suc, ◌+◌, ◌*◌}
+use mathlib.Core.Path.{◌≡◌, refl, ap}
+use mathlib.Core.List.{List, [], ◌∷◌, map}
 use native.Mathlib.Omega.{arith}
 use lib.ListN.{length, get_or}
+use Rattle.std.proofs.Common.{◌/◌}
+use Rattle.std.specs.Simd.{first_chunks}
 use Rattle.model.specs.Host.{pressures_of}
 
--- a pair of bytes is one of them
-pub pressures-pair : (pair rest : List ℕ) → length pair ≡ 2 → pressures_of (pair ++ rest) ≡ (get_or pair 0 0 * 256 + get_or pair 1 0) ∷ pressures_of rest
-unfolding pressures_of
-pressures-pair [] rest h = absurd (omega arith)
-pressures-pair (a ∷ []) rest h = absurd (omega arith)
-pressures-pair (a ∷ (b ∷ [])) rest h = refl
-pressures-pair (a ∷ (b ∷ (c ∷ l))) rest h = absurd (omega arith)
+-- the pressure of a pair
+abbrev pub pressure : List ℕ → ℕ
+pressure pair = get_or pair 0 0 * 256 + get_or pair 1 0
 
 -- a byte alone is none
-pub pressures-end : (rest : List ℕ) → length rest < 2 → pressures_of rest ≡ []
+pub by_pairs : (n : ℕ) (bytes : List ℕ) → n ≡ length bytes / 2 → map pressure (first_chunks 2 n bytes) ≡ pressures_of bytes
 unfolding pressures_of
-pressures-end [] h = refl
-pressures-end (a ∷ []) h = refl
-pressures-end (a ∷ (b ∷ l)) h = absurd (omega arith)
-
-pub ruleset pairs = (pressures-pair, pressures-end)
+by_pairs zero [] e = refl
+by_pairs zero (a ∷ []) e = refl
+by_pairs zero (a ∷ (b ∷ rest)) e = absurd (omega arith)
+by_pairs (suc n) [] e = absurd (omega arith)
+by_pairs (suc n) (a ∷ []) e = absurd (omega arith)
+by_pairs (suc n) (a ∷ (b ∷ rest)) e = ap (λ (l : List ℕ). (a * 256 + b) ∷ l) (by_pairs n rest (omega arith))

@@ -6,14 +6,13 @@ ghost use Rattle.host.specs.Promises.{pressures_asked};
 use arrayvec::ArrayVec;
 
 // Pressures of 2 bytes each, high byte first.
-#[tactic(auto, using(std::proofs::lemmas::Grind::common_steps, crate::proofs::Pressures::pairs))]
 fn pressures_of(bytes: &[u8]) -> ArrayVec<u16, 32>
     requires { length bytes.now ≤ 64 }
     ensures { result.items ≡ pressures_of bytes.now }
 {
     let mut pressures = ArrayVec::new();
-    for pair in bytes.chunks_exact(2) {
-        pressures.push(u16::from_be_bytes([pair[0], pair[1]]));
+    for pair in bytes.as_chunks::<2>().0 {
+        pressures.push(u16::from_be_bytes(*pair));
     }
     pressures
 }
