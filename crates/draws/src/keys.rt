@@ -53,10 +53,10 @@ impl Key {
         (self.bits(place) % count as u64) as usize
     }
 
-    // True once in so many cases.
+    // True once in so many cases, and never in 0.
     pub fn once_in(self, place: u64, cases: u64) -> bool
-        ensures { IsTrue result ↔ (drawn self.0 place % cases ≡ 0) }
+        ensures { IsTrue result ↔ ((0 < cases) × (drawn self.0 place % cases ≡ 0)) }
     {
-        self.bits(place).is_multiple_of(cases)
+        0 < cases && self.bits(place).is_multiple_of(cases)
     }
 }
