@@ -1,8 +1,12 @@
-use Rattle.std.proofs.Common.{◌+◌, refl, arith}
-use Rattle.model.specs.Ranges.{section_count}
-use Rattle.model.specs.Tower.{section_of}
-use Rattle.model.specs.File.{read_section, read_sections}
-use Rattle.file_fields.proofs.Answered.{onward, onward-no, ranged-high}
+use Rattle.std.proofs.Common.{◌≡◌, ℕ, ◌+◌, ◌≤◌, List, [], map, length, drop, eqb, refl, arith, Ok}
+use Rattle.model.specs.declared.Item.{Item}
+use Rattle.model.specs.declared.Section as stored
+use Rattle.model.specs.Ranges.{leg_count, section_count}
+use Rattle.model.specs.Tower.{Section, section_of}
+use Rattle.model.specs.Reading.{got, require, ranged, many}
+use Rattle.model.specs.File.{legs_of, read_section, read_sections, read_file}
+use Rattle.file_fields.specs.Outcomes.{ReadsAs}
+use Rattle.file_fields.proofs.Answered.{rest, onward, onward-no, ranged-high}
 use Rattle.file_parts.specs.Parts.{read_item_part}
 use Rattle.file_parts.proofs.Each.{each-behind, each-barred}
 use Rattle.file_parts.proofs.Order.{items-last}
@@ -38,41 +42,31 @@ returns-in_err-items c =
     turned_down _ _ c.from_residual-in_err-items.ensures.1
     (rw (items-last s, c.in_ok-legs.ensures.says.0, count.ensures.says.0, sections.0, no) refl)
 
+-- all parts were read: whether bytes follow decides
+module _ (s : List ℕ) (a : ℕ) (sections : List stored.Section) {R : Type 0} {items : R → List Item} {next : R → ℕ} where
+  parts-read : {legs count at used : ℕ} {none : List stored.Section} {r : R} → ranged 1 leg_count 3 s ≡ got legs (drop a s)
+      → (ranged 1 section_count 4 (drop a s) ≡ got count (drop at s)) × (at ≤ length s) → none ≡ []
+      → ReadsAs (λ (n : ℕ). map section_of sections) (λ (n : ℕ). n) (rest s at)
+      (many (λ (l : List Section). read_section) count (map section_of none) (rest s at)) (Ok used)
+      → ReadsAs items next (rest s (at + used)) (read_item_part count (rest s (at + used))) (Ok r)
+      → (read_file s
+      ≡ require (eqb (length (drop (at + used + next r) s)) 0) 13
+      (got (record { legs = legs_of legs; sections = map section_of sections; items = items r }) []))
+      × (at + used + next r ≤ length s)
+  unfolding read_sections
+  parts-read {count = count} {at} {used} legs counted e parts held =
+      let front = each-behind section_of read_section count s at e counted.1 sections parts in
+      let all = onward (read_item_part count) s (at + used) front.1 held in
+      (rw (items-last s, legs, counted.0, front.0, all.0) refl, all.1)
+
 pub returns-then-at-used : goal.returns-then-at-used
-unfolding read_sections
 returns-then-at-used c =
     let s = c.args.file.now in
-    let count = c.in_ok-count in
-    let sections = each-behind section_of read_section count.count s count.at c.new-sections.ensures count.ensures.says.1 _ c.in_ok-at.ensures in
-    let items = onward (read_item_part count.count) s (count.at + c.in_ok-at.field-0) sections.1 c.in_ok-items.ensures in
-    record {
-      tower = rw (
-        items-last s,
-        c.in_ok-legs.ensures.says.0,
-        count.ensures.says.0,
-        sections.0,
-        items.0,
-        bytes-follow s _ items.1 c.if-at-used.true,
-      )
-          refl;
-    }
+    let read = parts-read s _ _ c.in_ok-legs.ensures.says.0 c.in_ok-count.ensures.says c.new-sections.ensures c.in_ok-at.ensures c.in_ok-items.ensures in
+    record { tower = rw (read.0, bytes-follow s _ read.1 c.if-at-used.true) refl }
 
 pub returns : goal.returns
-unfolding read_sections
 returns c =
     let s = c.args.file.now in
-    let count = c.in_ok-count in
-    let sections = each-behind section_of read_section count.count s count.at c.new-sections.ensures count.ensures.says.1 _ c.in_ok-at.ensures in
-    let items = onward (read_item_part count.count) s (count.at + c.in_ok-at.field-0) sections.1 c.in_ok-items.ensures in
-    record {
-      tower = rw (
-        items-last s,
-        c.in_ok-legs.ensures.says.0,
-        count.ensures.says.0,
-        sections.0,
-        items.0,
-        nothing-follows s _ c.if-at-used.false,
-        c.from-legs.ensures,
-      )
-          refl;
-    }
+    let read = parts-read s _ _ c.in_ok-legs.ensures.says.0 c.in_ok-count.ensures.says c.new-sections.ensures c.in_ok-at.ensures c.in_ok-items.ensures in
+    record { tower = rw (read.0, nothing-follows s _ c.if-at-used.false, c.from-legs.ensures) refl }
