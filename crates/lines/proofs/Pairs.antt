@@ -19,13 +19,6 @@ pub record Paired (room : ℕ) (text out rest : List ℕ) (i : ℕ) : Type 0 whe
   pub left : 2 * i + length rest ≡ length text
   pub bytes : pairs text ≡ behind (take i out) (pairs rest)
 
-pub paired_none : (text out : List ℕ) → Paired (length out) text out text 0
-paired_none text out = record { long = refl; left = omega arith; bytes = go (pairs text) }
-  where
-    go : (o : Option (List ℕ)) → o ≡ behind [] o
-    go (Some bs) = refl
-    go None = refl
-
 -- a list of two
 pairs_more : (pair rest : List ℕ) → length pair ≡ 2 → pairs (pair ++ rest) ≡ with_first (pair_value (get_or pair 0 0) (get_or pair 1 0)) (pairs rest)
 unfolding pairs

@@ -1,5 +1,5 @@
 // Bytes in hexadecimal, two digits a byte.
-ghost use Rattle.std.specs.Prelude.{◌≡◌, ◌<◌, length, slice_index};
+ghost use Rattle.std.specs.Prelude.{◌≡◌, ◌<◌, ◌≤◌, length, slice_index, IfOk};
 ghost use Rattle.lines.specs.Copied.{result_copied};
 ghost use Rattle.lines.specs.Hex.{hex_digit, hex_value, pair_value, bytes_in};
 
@@ -31,7 +31,8 @@ fn pair_value(pair: &[u8]) -> Option<u8>
 
 // The bytes of a text, which are put at the start of out.
 pub fn read_hex<'a>(text: &[u8], out: &'a mut [u8]) -> Result<&'a [u8], HexError>
-    ensures { result_copied result ≡ bytes_in (length out.old) text.now }
+    ensures value { result_copied result ≡ bytes_in (length out.old) text.now }
+    ensures within { IfOk result (λ bytes. length bytes.now ≤ length out.old) }
 {
     if text.len() % 2 == 1 {
         return Err(HexError::Bad);

@@ -1,5 +1,5 @@
 // The numbers of a line.
-ghost use Rattle.std.specs.Prelude.{◌≡◌, length};
+ghost use Rattle.std.specs.Prelude.{◌≡◌, ◌≤◌, length, IfOk};
 ghost use Rattle.lines.specs.Copied.{result_copied};
 ghost use Rattle.lines.specs.Numbers.{numbers_in, digit_value};
 
@@ -38,7 +38,8 @@ fn digit_value(digit: u8) -> Option<u64>
 
 // The numbers of a line, with one space between two, which are put at the start of out.
 pub fn numbers_of<'a>(line: &[u8], out: &'a mut [u64]) -> Result<&'a [u64], NumbersError>
-    ensures { result_copied result ≡ numbers_in (length out.old) line.now }
+    ensures value { result_copied result ≡ numbers_in (length out.old) line.now }
+    ensures within { IfOk result (λ numbers. length numbers.now ≤ length out.old) }
 {
     let mut count = 0;
     // The number whose digits are being read.

@@ -1,7 +1,6 @@
 -- The text of a message has at most 8192 bytes.
-use Rattle.std.proofs.Common.{◌≡◌, ℕ, zero, suc, ◌+◌, ◌*◌, ◌/◌, ◌^◌, ◌≤◌, ◌<◌, List, [], ◌∷◌, length, get_or, take, drop, Some, None, Result, Ok, Err, arith, lit<, lit≤, length-append, get_or-drop}
+use Rattle.std.proofs.Common.{ℕ, zero, suc, ◌+◌, ◌*◌, ◌/◌, ◌^◌, ◌≤◌, ◌<◌, List, [], ◌∷◌, length, get_or, take, drop, Some, None, Result, Ok, Err, arith, lit≤, length-append, get_or-drop}
 use Rattle.std.specs.Prelude.{decimal}
-use Rattle.std.specs.Borrow.{Bor}
 use Rattle.std.proofs.lemmas.Fmt.{length-decimal-le}
 use Rattle.model.specs.Answers.{refusal_number}
 use Rattle.model.proofs.Says.{refusal-highest}
@@ -28,10 +27,6 @@ Moderate (Ok (Over None)) = Unit {0}
 Moderate (Ok (File file)) = length file.now ≤ 3000
 Moderate (Ok Help) = Unit {0}
 Moderate (Err e) = Unit {0}
-
-pub largest-moderate : (rows file : Bor (List ℕ)) → ((i : ℕ) → get_or rows.now i 0 < 2 ^ 64) → length rows.now ≡ 192 → length file.now ≡ 3000
-    → Moderate (Ok (Rows rows)) × Moderate (Ok (Over (Some 31))) × Moderate (Ok (File file))
-largest-moderate rows file h k l = (record { words = h; most = omega arith }, lit< tt, omega arith)
 
 word-short : (n : ℕ) → n < 2 ^ 64 → length (decimal n) ≤ 20
 word-short n h = length-decimal-le 20 n (omega arith) (omega arith) h

@@ -5,7 +5,7 @@ use Rattle.std.proofs.lemmas.List.{take_more, take_at, drop_at}
 use Rattle.lines.specs.declared.text.Text.{Text}
 use Rattle.lines.specs.Text.{spaced}
 use Rattle.lines.specs.Appends.{Appends}
-use Rattle.lines.proofs.Putting.{appends_none, appends_both}
+use Rattle.lines.proofs.Putting.{appends_both}
 use Rattle.lines.specs.Numbers.{inside, read_to}
 use Rattle.lines.proofs.ReadBack.{read_first, numbers-back}
 use Rattle.replies.specs.MessageText.{row_text, rows_text}
@@ -36,9 +36,6 @@ pub record RowsPut (rows rest : List ℕ) (old new : Text) : Type 0 where
   pub done : List ℕ
   pub put : Appends done old new
   pub left : rows_text (length rows / 6) rows ≡ done ++ rows_text (length rest / 6) rest
-
-pub no_rows : (rows : List ℕ) (text : Text) → RowsPut rows rows text text
-no_rows rows text = record { done = []; put = appends_none text; left = refl }
 
 rows_more : (row rest : List ℕ) → length row ≡ 6
     → rows_text (length (row ++ rest) / 6) (row ++ rest) ≡ row_text row ++ rows_text (length rest / 6) rest

@@ -1,5 +1,5 @@
 -- A request that was read from a line: what it asks for.
-use Rattle.std.specs.Prelude.{ℕ, ◌≡◌, Result, Ok, Err}
+use Rattle.std.specs.Prelude.{ℕ, ◌≡◌, ◌≤◌, length, Result, Ok, Err}
 use Rattle.model.specs.Calls.{erect}
 use Rattle.requests.specs.declared.Request.{Request}
 use Rattle.requests.specs.declared.Request.TheVariants.{Numbered, Erect}
@@ -18,3 +18,8 @@ room_of most rows bytes = record { numbers = most; rows = rows; file = bytes }
 -- r asks for a, where so many numbers and bytes fit
 abbrev pub Decoded : (Room → Asked) → ℕ → ℕ → Result Request Fault → Type 0
 Decoded a most bytes r = (rows : ℕ) → asked_of (room_of most rows bytes) r ≡ a (room_of most rows bytes)
+
+-- at most so many numbers, or so many bytes
+abbrev pub Within : ℕ → ℕ → Request → Type 0
+Within most bytes (Numbered v args) = length args.now ≤ most
+Within most bytes (Erect file) = length file.now ≤ bytes

@@ -1,10 +1,10 @@
 // A whole line. The numbers of a request are put at the start of `numbers`, the bytes of an erect at the start of
 // `file`.
-ghost use Rattle.std.specs.Prelude.{◌≡◌, length};
+ghost use Rattle.std.specs.Prelude.{◌≡◌, ℕ, length, IfOk};
 ghost use Rattle.std.specs.Option.{option_copied};
 ghost use Rattle.requests.specs.Asked.{Room, asked_alone, asked_text, asked_in};
 ghost use Rattle.requests.specs.Words.{space_in, first_word, rest_of};
-ghost use Rattle.requests.specs.Decoded.{asked_of, Decoded};
+ghost use Rattle.requests.specs.Decoded.{asked_of, Decoded, Within};
 
 use crate::words::word_of;
 use crate::{Fault, Request, Word};
@@ -34,7 +34,8 @@ fn split_word(line: &[u8]) -> (&[u8], Option<&[u8]>)
 // A word alone.
 #[tactic(auto, unfolding(crate::specs::Asked::asked_alone))]
 fn read_word<'n, 'f>(word: Word) -> Request<'n, 'f>
-    ensures { (room : Room) → asked_of room (Ok result) ≡ asked_alone room word }
+    ensures asks { (room : Room) → asked_of room (Ok result) ≡ asked_alone room word }
+    ensures within { (most bytes : ℕ) → Within most bytes result }
 {
     match word {
         Word::Numbered(verb) => Request::Numbered(verb, &[]),
@@ -50,7 +51,8 @@ fn read_text<'n, 'f>(
     numbers: &'n mut [u64],
     file: &'f mut [u8],
 ) -> Result<Request<'n, 'f>, Fault>
-    ensures { Decoded (λ room. asked_text room word text.now) (length numbers.old) (length file.old) result }
+    ensures asks { Decoded (λ room. asked_text room word text.now) (length numbers.old) (length file.old) result }
+    ensures within { IfOk result (Within (length numbers.old) (length file.old)) }
 {
     match word {
         Word::Numbered(verb) => Ok(Request::Numbered(verb, numbers_of(text, numbers)?)),
@@ -65,7 +67,8 @@ pub fn read_line<'n, 'f>(
     numbers: &'n mut [u64],
     file: &'f mut [u8],
 ) -> Result<Request<'n, 'f>, Fault>
-    ensures { Decoded (λ room. asked_in room line.now) (length numbers.old) (length file.old) result }
+    ensures asks { Decoded (λ room. asked_in room line.now) (length numbers.old) (length file.old) result }
+    ensures within { IfOk result (Within (length numbers.old) (length file.old)) }
 {
     if LONGEST < line.len() {
         return Err(Fault::LongLine);

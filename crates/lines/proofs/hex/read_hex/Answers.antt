@@ -4,8 +4,8 @@ use Rattle.lines.specs.declared.hex.HexError.TheVariants.{Bad}
 use Rattle.lines.proofs.Pairs.{no_pair, paired_more, paired_all}
 use Rattle.lines.proofs.hex.read_hex.Goals as goal
 
-pub returns-in_err-out : goal.returns-in_err-out
-returns-in_err-out c =
+pub returns-in_err-out-clause-value : goal.returns-in_err-out-clause-value
+returns-in_err-out-clause-value c =
     let p = err_from_is_err_and c.from_residual.result c.from_residual.ensures.1 in
     let s = c.in-Some.ensures.steps in
     let bad = rw c.in_err-out.ensures.ok_part at c.in_err-out.ensures.value in
@@ -25,6 +25,6 @@ loop-i-preserved c =
       two = s.0.0 ∙ c.loop-i.invariant.two;
     })
 
-pub returns : goal.returns
-returns c =
+pub returns-clause-value : goal.returns-clause-value
+returns-clause-value c =
     paired_all _ _ _ _ _ c.loop-i.invariant.paired (omega (arith, c.in-None.ensures.steps.0.1.0)) c.if-text-eq1.false c.if-out-count.false
