@@ -1,30 +1,16 @@
 // A call's arguments, from the numbers behind the request's word, or what is wrong with them.
-ghost use Rattle.std.specs.Prelude.{◌≡◌, ◌≤◌, ℕ, length, IfOk, OnOk};
+ghost use Rattle.std.specs.Prelude.{◌≡◌, ◌≤◌, ℕ, IfOk};
 ghost use Rattle.arrayvec.specs.ArrayVec.{array_vec_len};
 ghost use Rattle.model.specs.Tower.{wind_of};
 ghost use Rattle.model.specs.Calls as call;
 ghost use Rattle.requests.specs.Asked.{Asked, called, counted, hang_asked, take_down_asked, wind_asked, room_at};
 ghost use Rattle.handler.specs.Arguments.{asked_for};
 
-use crate::{NUMBERS, PRESSURES};
+use crate::PRESSURES;
 use arrayvec::ArrayVec;
 use model::{Item, Wind};
 use requests::Fault;
 use units::Length;
-
-// From `low` to `high` numbers.
-fn counted(args: &[u64], low: usize, high: usize) -> Result<(), Fault>
-    ensures asks { (a : Asked) → asked_for (λ _. a) result ≡ counted low high args.now a }
-    ensures within { OnOk result ((low ≤ length args.now) × (length args.now ≤ high)) }
-{
-    if args.len() < low {
-        return Err(Fault::FewWords);
-    }
-    if high < args.len() {
-        return Err(Fault::ManyWords);
-    }
-    Ok(())
-}
 
 // N numbers.
 pub(crate) fn exactly<const N: usize>(args: &[u64]) -> Result<&[u64; N], Fault>
@@ -83,14 +69,19 @@ pub(crate) fn wind_of<'a>(
     requires { array_vec_len pressures.old ≡ 0 }
     ensures { asked_for (λ w. called (call.wind (wind_of w))) result ≡ wind_asked args.now }
 {
-    counted(args, 3, NUMBERS)?;
-    for n in &args[3..] {
-        pressures.push(u16::try_from(*n)?);
+    let [direction, ice, factor, asked @ ..] = args else {
+        return Err(Fault::FewWords);
+    };
+    if PRESSURES < asked.len() {
+        return Err(Fault::ManyWords);
+    }
+    for q in asked {
+        pressures.push(u16::try_from(*q)?);
     }
     Ok(Wind {
-        direction: u32::try_from(args[0])?,
-        ice: u32::try_from(args[1])?,
-        factor: u32::try_from(args[2])?,
+        direction: u32::try_from(*direction)?,
+        ice: u32::try_from(*ice)?,
+        factor: u32::try_from(*factor)?,
         pressures,
     })
 }
