@@ -67,11 +67,8 @@ impl FromBytes for Section {
             allowance: head.allowance,
             groups,
         };
-        let bare = Ice {
-            thickness: Length(0),
-        };
         let groups = section.groups.as_slice();
-        let solid = Face { groups }.solid(bare);
+        let solid = Face { groups }.solid(Ice::of_class(0));
         if gross_area(&section) < solid {
             return Err(Refusal::BareSolidity);
         }

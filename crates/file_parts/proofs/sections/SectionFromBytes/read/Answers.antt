@@ -33,7 +33,7 @@ pub returns-then-lt : goal.returns-then-lt
 returns-then-lt c =
     let head = c.in_ok-head in
     let groups = groups-behind head.head.count c.args.file.now head.at c.new-groups.ensures head.ensures.says.1 c.in_ok-used.ensures in
-    let solid = rw c.as_slice-groups.ensures.value at c.solid-solid.ensures in
+    let solid = rw (c.of_class.ensures, c.as_slice-groups.ensures.value) at c.solid-solid.ensures in
     let less : c.gross_area.result.0 < c.solid-solid.result.0 = grind (arith, nat_tests) in
     record { says = rw (head_first c.args.file.now, head.ensures.says.0, groups.0, too-solid c.gross_area.ensures.value solid less) refl }
 
@@ -41,7 +41,7 @@ pub returns : goal.returns
 returns c =
     let head = c.in_ok-head in
     let groups = groups-behind head.head.count c.args.file.now head.at c.new-groups.ensures head.ensures.says.1 c.in_ok-used.ensures in
-    let solid = rw c.as_slice-groups.ensures.value at c.solid-solid.ensures in
+    let solid = rw (c.of_class.ensures, c.as_slice-groups.ensures.value) at c.solid-solid.ensures in
     let most : c.solid-solid.result.0 ≤ c.gross_area.result.0 = grind (arith, nat_tests) in
     record {
       says = (
