@@ -2,14 +2,12 @@
 use Prim.Native.Nat.{◌+◌, ◌*◌, ◌≤◌}
 use mathlib.Core.Path.{◌≡◌}
 use mathlib.Core.Bool.{true}
-use mathlib.Core.List.{[]}
 use native.Mathlib.Nat.{mul-le-mul}
 use native.Mathlib.Omega.{arith}
 use Rattle.units.specs.declared.Length.{Length}
 use Rattle.model.specs.declared.Member.TheVariants.{Flat}
 use Rattle.model.specs.declared.Group.{Group}
 use Rattle.model.specs.declared.Item.{Item}
-use Rattle.model.specs.declared.Section.{Section}
 use Rattle.model.specs.Ranges.{within, member_size, member_length}
 use Rattle.model.specs.Areas.{size_of, group_area}
 use Rattle.model.specs.Valid.{group_fits}
@@ -31,9 +29,6 @@ no_item =
       iced = 0;
       position = 0;
     }
-
-abbrev pub no_stored : Section
-no_stored = record { width = record { 0 = 0 }; height = record { 0 = 0 }; allowance = record { 0 = 0 }; groups = record { items = [] } }
 
 pub record GroupFacts (g : Group) : Type 0 where
   pub size : InRange member_size (size_of g.member).0

@@ -1,10 +1,9 @@
 -- The lesser winds of the groups in code.
-use Prim.Native.Nat.{ℕ, zero, suc, ◌+◌, ◌*◌, ◌/◌, ◌≤◌, ◌<◌}
+use Prim.Native.Nat.{ℕ, zero, suc, ◌+◌, ◌*◌, ◌/◌, ◌<◌}
 use mathlib.Core.Path.{◌≡◌, refl, sym, ◌∙◌}
 use mathlib.Core.Bool.{Bool, true, false, cond, not, ◌&&◌}
 use mathlib.Core.List.{List, [], ◌∷◌}
 use native.Mathlib.Omega.{arith}
-use native.Mathlib.Nat.{mul-pos, mul-le-mul}
 use lib.Dec.{eqb}
 use lib.ListN.{length, get_or, take}
 use borrow.Author.Tests.{eq-eqb, ne_eqb}
@@ -23,22 +22,13 @@ use Rattle.model.proofs.LesserWinds.{GreatestUnder, greatest-under, positive, le
 use Rattle.areas.specs.LesserPressures.{turns_above, Needless, seen, Covered, none, needless, WindOf}
 use Rattle.areas.proofs.Facts.{no_group}
 
--- the greatest pressure below it: not 0 for a diameter of at most 1 m, and below q
+-- the greatest pressure at which a diameter is not supercritical that is so under q: below q
 module _ (q : ℕ) (d : Length) (g : flow_limit < 2 * q * (d.0 * d.0)) where
   pub greatest : GreatestUnder flow_limit d.0 (flow_limit / (2 * (d.0 * d.0)))
   greatest = greatest-under flow_limit d.0 (positive flow_limit q d.0 g)
 
   pub greatest-less : flow_limit / (2 * (d.0 * d.0)) < q
   greatest-less = less q greatest g
-
-  module _ (h : d.0 ≤ 1000) where
-    pub square-small : (0 < d.0 * d.0) × (d.0 * d.0 ≤ 1_000_000)
-    square-small =
-        let k : 0 < d.0 = positive flow_limit q d.0 g in
-        (mul-pos k k, mul-le-mul {n₂ = 1000} {m₂ = 1000} h h)
-
-    pub greatest-positive : 0 < flow_limit / (2 * (d.0 * d.0))
-    greatest-positive = greatest.none_above 1 (omega (arith, square-small.1))
 
 -- a round that turns supercritical between p and p + 1 has the lesser wind p under every higher pressure, and no other
 -- has

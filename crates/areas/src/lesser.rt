@@ -14,7 +14,7 @@ fn greatest_subcritical(q: u16, d: Length) -> u16
     requires { (d.0 ≤ 1000) × (flow_limit < 2 * q * (d.0 * d.0)) }
     ensures { (result ≡ flow_limit / (2 * (d.0 * d.0))) × (0 < result) × (result < q) }
 {
-    let p = (FLOW_LIMIT as u32) / (2 * (d.0 * d.0));
+    let p = FLOW_LIMIT / (2 * (d.0 * d.0));
     p as u16
 }
 

@@ -79,11 +79,7 @@ pub fn measure(t: Length, q: u16, section: &Section) -> Option<Areas>
         return None;
     }
     let areas = measure_groups(ice, q, &section.groups)?;
-    if areas.solid() <= gross_area(section) {
-        Some(areas)
-    } else {
-        None
-    }
+    (areas.solid() <= gross_area(section)).then_some(areas)
 }
 
 // Whether it stands. The pressure has no part in that.

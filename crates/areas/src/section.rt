@@ -26,7 +26,7 @@ pub fn group_area(ice: Ice, group: Group) -> Area
     iced_area(ice, group.member.size(), group.length)
 }
 
-pub(crate) const FLOW_LIMIT: u64 = 45_000_000;
+pub(crate) const FLOW_LIMIT: u32 = 45_000_000;
 
 // With the bare diameter d, and only where there is no ice.
 pub(crate) fn is_supercritical(t: Length, q: u16, d: Length) -> bool
@@ -41,13 +41,8 @@ pub fn flow_class(t: Length, q: u16, member: Member) -> Flow
 {
     match member {
         Member::Flat(_) => Flow::Flat,
-        Member::Round(d) => {
-            if is_supercritical(t, q, d) {
-                Flow::Supercritical
-            } else {
-                Flow::Subcritical
-            }
-        }
+        Member::Round(d) if is_supercritical(t, q, d) => Flow::Supercritical,
+        Member::Round(_) => Flow::Subcritical,
     }
 }
 

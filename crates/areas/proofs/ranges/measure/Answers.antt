@@ -1,17 +1,10 @@
-use Rattle.std.proofs.Common.{◌≡◌, ℕ, ◌≤◌, true, List, leb, sym, ap, ◌∙◌}
+use Rattle.std.proofs.Common.{◌≡◌, ◌≤◌, true, Bool, false, refl, sym, ◌∙◌}
+use Rattle.std.specs.Prelude.{is_some}
+use Rattle.std.specs.Bool.{then_some}
 use borrow.Author.Tests.{lt-leb}
-use Rattle.units.specs.declared.Length.{Length}
-use Rattle.units.specs.declared.Area.{Area}
-use Rattle.model.specs.declared.Areas.{Areas}
-use Rattle.model.specs.declared.Group.{Group}
-use Rattle.model.specs.declared.Section.{Section}
-use Rattle.model.specs.Lists.{all_of}
-use Rattle.model.specs.Tower.{section_of}
-use Rattle.model.specs.Areas.{gross, solid, areas_of}
-use Rattle.model.specs.Valid.{group_fits}
 use Rattle.model.proofs.Solid.{solid-of}
 use Rattle.units.proofs.Order.{is_le-leb}
-use Rattle.areas.specs.Fits.{fits_under, sizes_fit}
+use Rattle.areas.specs.Fits.{fits_under}
 use Rattle.areas.proofs.Fits.{size-facts, under-iced}
 use Rattle.areas.proofs.ranges.measure.Goals as goal
 
@@ -28,7 +21,7 @@ pub returns-in_err-areas-clause-stands : goal.returns-in_err-areas-clause-stands
 returns-in_err-areas-clause-stands c =
     let thin : c.args.t.0 ≤ 50 = rw (← c.in_ok-ice.ensures) c.in_ok-ice.ice.thin in
     let sizes = sym c.sizes_fit.ensures ∙ c.if-not-sizes_fit.false in
-    let groups = ap (all_of group_fits) (sym c.deref.ensures.0) ∙ sym c.in_err-areas.ensures.fit in
+    let groups = rw c.deref.ensures.0 at (sym c.in_err-areas.ensures.fit) in
     rw (c.from_residual-in_err-areas.ensures, under-iced c.args.t c.args.section.now thin, sizes, groups)
 
 pub gross_area-requires : goal.gross_area-requires
@@ -36,25 +29,28 @@ gross_area-requires c =
     let f = size-facts c.args.section.now (sym c.sizes_fit.ensures ∙ c.if-not-sizes_fit.false) in
     (f.width, f.height)
 
+some_then : {A : Type 0} (b : Bool) (x : A) → is_some (then_some b x) ≡ b
+some_then true x = refl
+some_then false x = refl
+
 -- where the sizes and the groups are in range, the areas decide
-areas-decide : (t ice : Length) (q : ℕ) (s : Section) (gs : List Group) (a : Areas) (u r : Area) → ice ≡ t → ice.0 ≤ 50 → gs ≡ s.groups.items
-    → sizes_fit s ≡ true → all_of group_fits gs ≡ true → a ≡ areas_of ice q gs → r ≡ solid a → u ≡ gross (section_of s)
-    → leb r.0 u.0 ≡ fits_under t s
-areas-decide t ice q s gs a u r e thin f sizes groups ea er eu =
-    let h : t.0 ≤ 50 = rw (← e) thin in
-    let k : all_of group_fits s.groups.items ≡ true = rw (← f) groups in
-    rw (under-iced t s h, sizes, k, er, ea, solid-of ice q gs, eu, e, f)
-
-pub returns-then-le-clause-stands : goal.returns-then-le-clause-stands
-returns-then-le-clause-stands c =
+pub returns-clause-stands : goal.returns-clause-stands
+returns-clause-stands c =
+    let thin : c.args.t.0 ≤ 50 = rw (← c.in_ok-ice.ensures) c.in_ok-ice.ice.thin in
     let sizes = sym c.sizes_fit.ensures ∙ c.if-not-sizes_fit.false in
-    c.if-le.ensures ∙ is_le-leb _ _
-    ∙ areas-decide c.args.t _ c.args.q _ c.deref.result.now _ _ _ c.in_ok-ice.ensures c.in_ok-ice.ice.thin c.deref.ensures.0 sizes
-    (sym c.in_ok-areas.ensures.fit) c.in_ok-areas.ensures.areas.0 c.solid.ensures c.gross_area.ensures.value
-
-pub returns-else-le-clause-stands : goal.returns-else-le-clause-stands
-returns-else-le-clause-stands c =
-    let sizes = sym c.sizes_fit.ensures ∙ c.if-not-sizes_fit.false in
-    c.if-le.ensures ∙ is_le-leb _ _
-    ∙ areas-decide c.args.t _ c.args.q _ c.deref.result.now _ _ _ c.in_ok-ice.ensures c.in_ok-ice.ice.thin c.deref.ensures.0 sizes
-    (sym c.in_ok-areas.ensures.fit) c.in_ok-areas.ensures.areas.0 c.solid.ensures c.gross_area.ensures.value
+    let groups = rw c.deref.ensures.0 at (sym c.in_ok-areas.ensures.fit) in
+    let decided : c.le.result ≡ fits_under c.args.t c.args.section.now =
+    rw (
+      under-iced c.args.t c.args.section.now thin,
+      sizes,
+      groups,
+      c.le.ensures,
+      is_le-leb,
+      c.solid.ensures,
+      c.in_ok-areas.ensures.areas.0,
+      solid-of,
+      c.gross_area.ensures.value,
+      c.in_ok-ice.ensures,
+      c.deref.ensures.0,
+    ) refl in
+    rw (c.then_some.ensures, some_then) decided
