@@ -6,7 +6,7 @@ ghost use Rattle.areas.specs.Fits.{fits_under};
 use crate::Case;
 use areas::ice::Ice;
 use areas::iced::IcedSection;
-use force::LoadCase;
+use force::prepared::Loading;
 use force::section::LoadedSection;
 use model::Legs;
 
@@ -37,25 +37,23 @@ impl<'a> SoundCase<'a> {
     // The section under this pressure, with this sum of its items.
     pub fn loaded(&self, pressure: u16, items: u64) -> LoadedSection<'a>
         requires { (pressure ≤ 5000) × (items ≤ largest_items) }
-        ensures legs { result.case.legs ≡ legs_of self.now.case.now.legs }
-        ensures direction { result.case.direction ≡ self.now.case.now.direction }
-        ensures ice { result.case.ice.thickness ≡ thickness self.now.case.now.ice }
-        ensures factor { result.case.factor ≡ self.now.case.now.factor }
-        ensures section { result.section.now ≡ self.now.case.now.section }
-        ensures pressure { result.pressure ≡ pressure }
-        ensures items { result.items ≡ items }
+        ensures legs { result.legs ≡ legs_of self.now.case.now.legs }
+        ensures direction { result.loading.direction ≡ self.now.case.now.direction }
+        ensures ice { result.section.ice.thickness ≡ thickness self.now.case.now.ice }
+        ensures factor { result.loading.factor ≡ self.now.case.now.factor }
+        ensures section { result.section.section.now ≡ self.now.case.now.section }
+        ensures pressure { result.loading.pressure ≡ pressure }
+        ensures items { result.loading.items ≡ items }
     {
-        let IcedSection { ice, section } = self.iced_section();
         LoadedSection {
-            case: LoadCase {
-                legs: Legs::from(self.case.legs),
+            legs: Legs::from(self.case.legs),
+            section: self.iced_section(),
+            loading: Loading {
                 direction: self.case.direction,
-                ice,
                 factor: self.case.factor,
+                pressure,
+                items,
             },
-            section,
-            pressure,
-            items,
         }
     }
 }

@@ -1,8 +1,6 @@
 // The wind force on a section: the least whole number of newtons that is not below document 01's exact force.
 #![tactic(auto)]
 
-ghost use Rattle.std.specs.Prelude.{◌≤◌};
-
 mod coefficients;
 pub mod face;
 mod incidence;
@@ -10,19 +8,8 @@ mod least;
 pub mod prepared;
 pub mod section;
 
-use areas::ice::Ice;
-use model::{Areas, Legs};
+use model::Areas;
 use units::Force;
-
-// What the loads on all sections share: the legs, and the wind's direction, ice and structure factor.
-#[derive(Clone, Copy, Debug, PartialEq, Eq, Hash)]
-pub struct LoadCase {
-    pub legs: Legs,
-    pub direction: u32,
-    pub ice: Ice,
-    pub factor: u32,
-    ghost factor_small: { factor ≤ 2000 },
-}
 
 // What a section's row says of the section alone.
 #[derive(Clone, Copy, Debug, PartialEq, Eq, Hash)]

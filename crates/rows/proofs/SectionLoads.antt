@@ -3,20 +3,19 @@ use Rattle.std.proofs.Common.{◌≡◌, ℕ, ◌+◌, ◌*◌, ◌≤◌, ◌<�
 use Rattle.units.specs.declared.Length.{Length}
 use Rattle.model.specs.declared.Section as stored
 use Rattle.model.specs.Tower.{Section, section_of}
-use Rattle.model.specs.Force.{item_sum}
+use Rattle.model.specs.Force.{item_sum, largest_items}
 use Rattle.model.specs.Report as report
 use Rattle.model.specs.Report.{height_at, areas_at, force_at}
 use Rattle.areas.specs.Fits.{fits_under}
 use Rattle.force.specs.declared.Load.{Load}
-use Rattle.force.specs.declared.LoadCase.{LoadCase}
-use Rattle.force.specs.declared.section.LoadedSection.{LoadedSection}
-use Rattle.force.specs.Loaded.{Loaded}
+use Rattle.force.specs.Loaded.{SectionInWind, Loaded}
 use Rattle.force.proofs.Loads.{section-known}
 use Rattle.force.proofs.Reported.{Reports, force-small, load-reported}
 use Rattle.slots.specs.Held.{Slots, count_in, items_in, slot, section_as, section_at, least_section, pressure_at, ground_of, tower_in, wind_in}
 use Rattle.slots.proofs.Codec.{section-good, section-bad}
 use Rattle.slots.proofs.Lists.{get_or-list_to}
 use Rattle.slots.proofs.Grounds.{count-few, ice-windy, sections-are, pressures-are}
+use Rattle.rows.specs.declared.case.LoadCase.{LoadCase}
 use Rattle.rows.specs.declared.loads.SectionLoad.{SectionLoad}
 use Rattle.rows.specs.Loaded.{CaseOf, LoadAt}
 
@@ -42,36 +41,36 @@ module _ {l : Slots} {c : LoadCase} (k : CaseOf l c) (i : ℕ) (h : i < count_in
         → section_of y ≡ section_at l c.ice.thickness i
     bad y e f = (section-bad c.ice.thickness c.ice.thin (slot l (1 + 2 * i)) (slot l (1 + 2 * i + 1)) x read y e f).0
 
-  -- the section with what loads it
-  module _ (on : LoadedSection) (case : on.case ≡ c) (read : section_of on.section.now ≡ section_at l c.ice.thickness i)
-      (pressed : on.pressure ≡ pressure_at l i) (summed : on.items ≡ item_sum c.ice.thickness i (items_in l)) where
-    same : section_of on.section.now ≡ report.section_at (tower_in l) i
+  -- the section in its wind
+  module _ (s : SectionInWind) (legs : s.legs ≡ c.legs) (direction : s.direction ≡ c.direction) (ice : s.ice ≡ c.ice.thickness) (factor : s.factor ≡ c.factor)
+      (read : section_of s.section ≡ section_at l c.ice.thickness i) (pressed : (s.pressure ≡ pressure_at l i) × (s.pressure ≤ 5000))
+      (summed : (s.items ≡ item_sum c.ice.thickness i (items_in l)) × (s.items ≤ largest_items)) (stands : fits_under s.ice s.section ≡ true) where
+    same : section_of s.section ≡ report.section_at (tower_in l) i
     same = read ∙ sym section-is
 
-    reports : Reports (tower_in l) (wind_in l) i on
+    reports : Reports (tower_in l) (wind_in l) i s
     unfolding ground_of
     reports =
         record {
+          legs = legs ∙ k.legs;
           section = same;
-          legs = rw case k.legs;
-          direction = rw case k.direction;
-          ice = rw case k.ice;
-          factor = rw case k.factor;
-          pressure = pressed ∙ sym pressure-is;
-          items = summed ∙ ap (λ (t : Length). item_sum t i (items_in l)) k.ice;
+          direction = direction ∙ k.direction;
+          ice = ice ∙ k.ice;
+          factor = factor ∙ k.factor;
+          pressure = pressed.0 ∙ sym pressure-is;
+          items = summed.0 ∙ ap (λ (t : Length). item_sum t i (items_in l)) k.ice;
         }
 
-    pub load_at : {load : Load} {r : SectionLoad} → Loaded on load
-        → (r.load ≡ load) × (r.height ≡ on.section.now.height) × (r.allowance ≡ on.section.now.allowance)
-        → LoadAt (tower_in l) (wind_in l) i r
+    pub load_at : {load : Load} {r : SectionLoad} → Loaded s load
+        → (r.load ≡ load) × (r.height ≡ s.section.height) × (r.allowance ≡ s.section.allowance) → LoadAt (tower_in l) (wind_in l) i r
     unfolding height_at
     load_at {load} {r} p e =
-        let reported = load-reported (tower_in l) (wind_in l) i on reports p in
+        let reported = load-reported (tower_in l) (wind_in l) i s reports stands p in
         record {
           areas = ap (λ (x : Load). x.areas) e.0 ∙ reported.0;
           force = ap (λ (x : Load). x.force) e.0 ∙ reported.1;
-          small = rw e.0 (force-small on p.force);
+          small = rw e.0 (force-small s stands (rw factor c.factor_small) pressed.1 summed.1 p.force);
           height = e.1 ∙ ap (λ (s : Section). s.height) same;
-          tall = rw e.1 (section-known on).height.high;
+          tall = rw e.1 (section-known s stands).height.high;
           allowance = e.2 ∙ ap (λ (s : Section). s.allowance) same;
         }

@@ -9,7 +9,7 @@ use Rattle.model.specs.Force.{largest_force}
 use Rattle.model.specs.Report.{section_at, height_at, areas_at, force_at}
 use Rattle.force.specs.declared.Load.{Load}
 use Rattle.slots.specs.Held.{Slots, cell, ground_of, is_windy}
-use Rattle.force.specs.declared.LoadCase.{LoadCase}
+use Rattle.rows.specs.declared.case.LoadCase.{LoadCase}
 use Rattle.rows.specs.declared.feet.Foot.{Foot}
 use Rattle.rows.specs.declared.loads.SectionLoad.{SectionLoad}
 

@@ -2,6 +2,7 @@
 // against the allowances.
 #![tactic(auto)]
 
+mod case;
 mod feet;
 pub mod loads;
 mod table;

@@ -1,10 +1,13 @@
 // The loads on the sections of a tower under the wind that stands.
 ghost use Rattle.rows.specs.Loaded.{CaseOf};
 
+use crate::case::LoadCase;
 use areas::ice::Ice;
+use areas::iced::IcedSection;
 use areas::ranges::measure;
+use force::Load;
+use force::prepared::Loading;
 use force::section::LoadedSection;
-use force::{Load, LoadCase};
 use model::Section;
 use slots::State;
 use slots::head::legs_in;
@@ -70,23 +73,37 @@ impl<'a> LoadedTower<'a> {
         ensures { LoadAt (tower_in self.now.state.now) (wind_in self.now.state.now) i result }
     {
         let case = self.case;
+        let legs = case.legs;
+        let ice = case.ice;
         let pressure = pressure_at(self.state, i);
+        let loading = Loading {
+            direction: case.direction,
+            factor: case.factor,
+            pressure,
+            items,
+        };
         let section = section_as(self.state, i);
-        if let Some(areas) = measure(case.ice.thickness, pressure, &section) {
-            let on = LoadedSection {
-                case,
+        if let Some(areas) = measure(ice.thickness, pressure, &section) {
+            let iced = IcedSection {
+                ice,
                 section: &section,
-                pressure,
-                items,
+            };
+            let on = LoadedSection {
+                legs,
+                section: iced,
+                loading,
             };
             return SectionLoad::new(on.measured_load(areas), &section);
         }
         let section = least();
-        let on = LoadedSection {
-            case,
+        let iced = IcedSection {
+            ice,
             section: &section,
-            pressure,
-            items,
+        };
+        let on = LoadedSection {
+            legs,
+            section: iced,
+            loading,
         };
         SectionLoad::new(on.load(), &section)
     }

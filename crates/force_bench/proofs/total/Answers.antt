@@ -10,4 +10,5 @@ pub loop-i-preserved : goal.loop-i-preserved
 loop-i-preserved c =
     let on = c.loaded-section.ensures in
     total-more _ _ _ _ _ _ c.loop-i.invariant
-    (force-known _ _ c.loop-i.i _ on.legs on.direction on.ice on.factor (ap section_of on.section) on.pressure on.items c.load-sum.ensures) refl
+    (force-known _ _ c.loop-i.i _ c.loaded-section.result.section.stands on.legs (ap section_of on.section) on.direction on.ice on.factor on.pressure on.items
+    c.load-sum.ensures) refl

@@ -12,8 +12,9 @@ pub returns-in-Some : goal.returns-in-Some
 returns-in-Some c =
     let k = c.args.self.now.stands in
     let x = c.section_as-section in
-    let read = good k c.args.i c.requires.count x.result x.ensures (sym c.in-Some.ensures.stands) in
-    load_at k c.args.i c.requires.count _ refl read c.pressure_at-pressure.ensures.0 c.requires.items.0 c.measured_load.ensures c.new.ensures
+    let stands = sym c.in-Some.ensures.stands in
+    let read = good k c.args.i c.requires.count x.result x.ensures stands in
+    load_at k c.args.i c.requires.count _ refl refl refl refl read c.pressure_at-pressure.ensures c.requires.items stands c.measured_load.ensures c.new.ensures
 
 pub returns : goal.returns
 returns c =
@@ -21,4 +22,5 @@ returns c =
     let x = c.section_as-section in
     let y = c.least-section in
     let read = bad k c.args.i c.requires.count x.result x.ensures y.result (sym c.in_default.ensures.stands) y.ensures in
-    load_at k c.args.i c.requires.count _ refl read c.pressure_at-pressure.ensures.0 c.requires.items.0 c.load.ensures c.new-2.ensures
+    load_at k c.args.i c.requires.count _ refl refl refl refl read c.pressure_at-pressure.ensures c.requires.items (y.ensures.1 _ c.args.self.now.case.ice.thin)
+    c.load.ensures c.new-2.ensures
