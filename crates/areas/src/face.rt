@@ -9,7 +9,7 @@ use model::{Areas, Group};
 use units::Area;
 
 // At most 8 groups, each within its ranges.
-#[derive(Clone, Copy)]
+#[derive(Clone, Copy, Debug, PartialEq, Eq)]
 pub struct Face<'a> {
     pub groups: &'a [Group],
     ghost few: { length groups.now ≤ 8 },

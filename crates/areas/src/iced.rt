@@ -9,7 +9,7 @@ use model::Section;
 use units::Area;
 
 // A section that stands under the ice: it is within its ranges, and A_S is at most A_u.
-#[derive(Clone, Copy)]
+#[derive(Clone, Copy, Debug, PartialEq, Eq)]
 pub struct IcedSection<'a> {
     pub ice: Ice,
     pub section: &'a Section,

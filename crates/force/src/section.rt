@@ -9,7 +9,7 @@ use model::{Areas, Legs};
 use units::Force;
 
 // A section of a tower on so many legs, which stands under its ice, and what loads it.
-#[derive(Clone, Copy)]
+#[derive(Clone, Copy, Debug, PartialEq, Eq)]
 pub struct LoadedSection<'a> {
     pub legs: Legs,
     pub section: IcedSection<'a>,
