@@ -23,7 +23,7 @@ const MOST_NUMBERS: usize = 8 + 3 * 8 + 1 + 6 * 64;
 const MOST_INPUT: u32 = 500_000;
 
 // The load on the case's section, its items' sum, and what decided the formula's force at full pressure.
-#[derive(Clone, Copy)]
+#[derive(Clone, Copy, Debug, PartialEq, Eq)]
 struct Answer {
     load: Load,
     items: u64,
@@ -31,7 +31,7 @@ struct Answer {
 }
 
 // How many forces each way decided.
-#[derive(Clone, Copy, Default)]
+#[derive(Clone, Copy, Debug, Default, PartialEq, Eq)]
 struct Counts {
     no_pressure: u64,
     bounds: u64,

@@ -17,7 +17,7 @@ use std::io::Read;
 
 // The bytes from `at` to `end` of the buffer are read and not answered yet. `cut` says that the start of a line was
 // dropped, since it is too long, and `ended` that the input has ended.
-#[derive(Clone, Copy)]
+#[derive(Clone, Copy, Debug, PartialEq, Eq)]
 struct Input {
     at: usize,
     end: usize,

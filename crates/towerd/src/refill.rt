@@ -29,7 +29,7 @@ fn last_line(buf: &mut [u8], rest: usize, cut: bool) -> Option<Input>
 
 // More bytes behind those that are not answered, of which none are kept if their line is too long; None where nothing
 // is left to answer. A read that fails counts as the end of the input.
-pub fn refill(stdin: &mut impl Read, input: Input, buf: &mut [u8]) -> Option<Input>
+pub(crate) fn refill(stdin: &mut impl Read, input: Input, buf: &mut [u8]) -> Option<Input>
     requires { Buffered input buf.old }
     ensures { IfSome result (λ refilled. Buffered refilled buf.new) }
 {
