@@ -31,18 +31,18 @@ module _ (s : SectionInWind) (h : fits_under s.ice s.section ≡ true) where
 
 -- of code's section and its areas in a wind
 module _ (on : LoadedSection) (q : ℕ) {a : Areas} (ea : a ≡ areas_in (in_wind on) q) {u : Area} (eu : u ≡ gross (section_of on.section.section.now)) where
-  pub solid-known : (0 < (solid a).0) × ((solid a).0 ≤ u.0)
-  solid-known =
+  pub solid_known : (0 < (solid a).0) × ((solid a).0 ≤ u.0)
+  solid_known =
       let s = in_wind on in
       let f = stands s on.section.stands in
       rw (ea, eu, solid-of s.ice q (section_of s.section).groups) (f.solid, f.under)
 
   -- the formula of the section is that of its face
-  pub formula-least : (e : ℕ) {n : ℕ} → (solid a).0 + e ≡ u.0
+  pub formula_least : (e : ℕ) {n : ℕ} → (solid a).0 + e ≡ u.0
       → Least (only (face_force on.legs on.loading.direction on.loading.factor q (gross_of a e) a on.loading.items)) n
       → Least (only (formula_in (in_wind on) q)) n
   unfolding formula
-  formula-least e f g = let same : gross_of a e ≡ gross (section_of on.section.section.now) = ap area f ∙ eu in rw (← ea, ← same) g
+  formula_least e f g = let same : gross_of a e ≡ gross (section_of on.section.section.now) = ap area f ∙ eu in rw (← ea, ← same) g
     where
       area : ℕ → Area
       area n = record { 0 = n }

@@ -28,6 +28,7 @@ impl<'a> LoadedSection<'a> {
     }
 
     // What document 01's formula gives in a wind of this pressure, rounded up; `areas` are the section's then.
+    #[tactic(auto, using(crate::proofs::Loads::solid_known, crate::proofs::Loads::formula_least))]
     fn formula_force(&self, pressure: u16, areas: Areas) -> Decided<Force>
         requires { (pressure ≤ 5000) × (areas ≡ areas_in (in_wind self.now) pressure) }
         ensures { Least (only (formula_in (in_wind self.now) pressure)) result.value.0 }
