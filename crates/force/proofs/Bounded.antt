@@ -30,10 +30,10 @@ rootless l a e sum h =
     record { low_fits = omega arith; high_fits = omega arith; below = rw (z, h) (omega arith); above = rw (z, h) (omega arith) }
 
 -- the product that code forms
-pub root-square : (l : Legs) (a : Areas) (e v r : ℕ) → v ≡ a.supercritical.0 * ((solid a).0 + e) → r ≡ root_num l (solid a).0 e
+pub square_is : (l : Legs) (a : Areas) (e v r : ℕ) → v ≡ a.supercritical.0 * ((solid a).0 + e) → r ≡ root_num l (solid a).0 e
     → v * v * (r * 1_000_000_000_000) ≡ root_square l a e
 unfolding root_square
-root-square l a e v r ev er = rw (ev, er)
+square_is l a e v r ev er = rw (ev, er)
 
 with_root : (k i high less sum c d F : ℕ) → high + less ≡ sum → k * (i * high + c * d) ≤ F → k * (i * sum + c * d) ≤ F + k * i * less
 with_root k i high less sum c d F e h = let g : k * i * (high + less) ≡ k * i * sum = ap (λ (n : ℕ). k * i * n) e in omega arith

@@ -26,8 +26,8 @@ terms a b c s e ha hb hc h =
     }
 
 -- a product of words
-pub words-fit : (x y : ℕ) → x < 2 ^ 64 → y < 2 ^ 64 → x * y < 2 ^ 128
-words-fit x y hx hy = omega (arith, mul-le-mul {n₁ = x} {m₁ = y} {n₂ = 18_446_744_073_709_551_615} {m₂ = 18_446_744_073_709_551_615} (omega arith) (omega arith))
+pub words_fit : (x y : ℕ) → x < 2 ^ 64 → y < 2 ^ 64 → x * y < 2 ^ 128
+words_fit x y hx hy = omega (arith, mul-le-mul {n₁ = x} {m₁ = y} {n₂ = 18_446_744_073_709_551_615} {m₂ = 18_446_744_073_709_551_615} (omega arith) (omega arith))
 
 -- of areas of a face
 pub areas-fit : (x y : ℕ) → x ≤ largest_gross → y ≤ largest_gross → x * y ≤ largest_gross * largest_gross
@@ -49,12 +49,12 @@ pub in-millionths : (x y u f c p i j k : ℕ) → x * (i * 1_000_000 * f) + y * 
 in-millionths x y u f c p i j k = omega arith
 
 -- the divisor
-pub divisor-fits : (s u : ℕ) → s ≤ largest_gross → u ≤ largest_gross → 400 * s * u * (200 * (u * u)) < 2 ^ 128
-divisor-fits s u hs hu = words-fit (400 * s * u) (200 * (u * u)) (omega (arith, areas-fit s u hs hu)) (omega (arith, areas-fit u u hu hu))
+pub divisor_fits : (s u : ℕ) → s ≤ largest_gross → u ≤ largest_gross → 400 * s * u * (200 * (u * u)) < 2 ^ 128
+divisor_fits s u hs hu = words_fit (400 * s * u) (200 * (u * u)) (omega (arith, areas-fit s u hs hu)) (omega (arith, areas-fit u u hu hu))
 
-pub divisor-three : (s e : ℕ) → 20 * s * (s + e) * (5000 * (s + e)) ≡ incidence_den Three s e * face_den Three (s + e)
+pub divisor_three : (s e : ℕ) → 20 * s * (s + e) * (5000 * (s + e)) ≡ incidence_den Three s e * face_den Three (s + e)
 unfolding incidence_den face_den
-divisor-three s e = regroup (s + e)
+divisor_three s e = regroup (s + e)
   where
     regroup : (u : ℕ) → 20 * s * u * (5000 * u) ≡ 20 * s * (5000 * (u * u))
     regroup u = omega arith

@@ -26,12 +26,12 @@ products f r e x j h hx hj =
     }
 
 -- Kθ by the legs
-pub incidence-is-four : (k : ℕ) (a : Areas) (e : ℕ)
+pub incidence_is_four : (k : ℕ) (a : Areas) (e : ℕ)
     → 400 * (a.flat.0 + rounds a) * (a.flat.0 + rounds a + e) + (11 * a.flat.0 + 16 * rounds a) * k2_num (a.flat.0 + rounds a) e * quarters k
     ≡ incidence_num Four k a e
 unfolding incidence_num solid
-incidence-is-four k a e = rw (add_assoc a.flat.0 a.subcritical.0 a.supercritical.0)
+incidence_is_four k a e = rw (add_assoc a.flat.0 a.subcritical.0 a.supercritical.0)
 
-pub incidence-is-three : (k : ℕ) (a : Areas) (e : ℕ) → 20 * rounds a + a.flat.0 * (20 - halves k) ≡ incidence_num Three k a e
+pub incidence_is_three : (k : ℕ) (a : Areas) (e : ℕ) → 20 * rounds a + a.flat.0 * (20 - halves k) ≡ incidence_num Three k a e
 unfolding incidence_num
-incidence-is-three k a e = refl
+incidence_is_three k a e = refl

@@ -30,20 +30,20 @@ use Rattle.rounding.specs.declared.ceiling.Surd.{Surd}
 use Rattle.rounding.proofs.Reach.{whole-reaches}
 
 -- the numerator and the radicand, from the products that code forms
-pub num-sum : (factor slope g offset divisor x y : ℕ) → x ≡ g * (factor * slope) → y ≡ divisor * (factor * offset)
+pub num_sum : (factor slope g offset divisor x y : ℕ) → x ≡ g * (factor * slope) → y ≡ divisor * (factor * offset)
     → x + y ≡ factor * (slope * g + offset * divisor)
-num-sum factor slope g offset divisor x y ex ey = rw (ex, ey) (omega arith)
+num_sum factor slope g offset divisor x y ex ey = rw (ex, ey) (omega arith)
 
-pub radicand-is : (factored inc v o l r x y p u root : ℕ) → r ≡ factored * 1_000_000 * v → x ≡ r * (inc * o) → y ≡ r * (inc * l)
+pub radicand_is : (factored inc v o l r x y p u root : ℕ) → r ≡ factored * 1_000_000 * v → x ≡ r * (inc * o) → y ≡ r * (inc * l)
     → v ≡ p * u → o * l ≡ root → x * y ≡ factored * inc * 1_000_000 * p * u * (factored * inc * 1_000_000 * p * u) * root
-radicand-is factored inc v o l r x y p u root er ex ey ev el = rw (ex, ey, er, ev, ← el) (omega arith)
+radicand_is factored inc v o l r x y p u root er ex ey ev el = rw (ex, ey, er, ev, ← el) (omega arith)
 
 -- no supercritical member: there is no root
-pub no-radicand : (x p u root : ℕ) → p ≡ 0 → ◌≡◌ {A = ℕ} 0 (x * p * u * (x * p * u) * root)
-no-radicand x p u root e = rw e (omega arith)
+pub no_radicand : (x p u root : ℕ) → p ≡ 0 → ◌≡◌ {A = ℕ} 0 (x * p * u * (x * p * u) * root)
+no_radicand x p u root e = rw e (omega arith)
 
-pub factored-small : (q factor : ℕ) → q ≤ 5000 → factor ≤ 2000 → q * factor ≤ 10_000_000
-factored-small q factor hq hf = mul-le-mul {n₁ = q} {m₁ = factor} {n₂ = 5000} {m₂ = 2000} hq hf
+pub factored_small : (q factor : ℕ) → q ≤ 5000 → factor ≤ 2000 → q * factor ≤ 10_000_000
+factored_small q factor hq hf = mul-le-mul {n₁ = q} {m₁ = factor} {n₂ = 5000} {m₂ = 2000} hq hf
 
 -- bounds of the divisors
 square-bound : (x y : ℕ) → x ≤ largest_gross → y ≤ largest_gross → x * y ≤ largest_gross * largest_gross
@@ -123,8 +123,8 @@ module _ (p : PreparedFace) (w : Loading) (x : Linear) (g : LinearOf p w x) wher
   numerator-is : x.factor * (x.slope * p.sum + x.offset * x.divisor) ≡ form-on.num
   numerator-is = rw g.offset (num-is p.face.legs w.direction w.factor w.pressure p.face.areas p.face.gap.0 w.items _ _ _ _ g.factor g.slope p.sum_is (g.divisor ∙ p.divisor_is))
 
-  pub num-fits : x.factor * (x.slope * p.sum + x.offset * x.divisor) < 2 ^ 256
-  num-fits = rw numerator-is (num-room p.face.legs w.direction w.factor w.pressure p.face.areas p.face.gap.0 w.items p.face.small w.pressure_small w.factor_small w.items_small)
+  pub num_fits : x.factor * (x.slope * p.sum + x.offset * x.divisor) < 2 ^ 256
+  num_fits = rw numerator-is (num-room p.face.legs w.direction w.factor w.pressure p.face.areas p.face.gap.0 w.items p.face.small w.pressure_small w.factor_small w.items_small)
 
   module _ (hs : 0 < (solid p.face.areas).0) (v : Surd) (en : value256 v.num ≡ x.factor * (x.slope * p.sum + x.offset * x.divisor))
       (em : value512 v.radicand
@@ -138,13 +138,13 @@ module _ (p : PreparedFace) (w : Loading) (x : Linear) (g : LinearOf p w x) wher
     den-on = ed ∙ den-is p.face.legs w.direction w.factor w.pressure p.face.areas p.face.gap.0 w.items _ (g.divisor ∙ p.divisor_is)
 
     -- what `ceiling` asks and answers
-    pub ceiling-asks : (0 < value256 v.den) × (reaches (surd_of v) largest_force ≡ true)
-    ceiling-asks = (
+    pub ceiling_asks : (0 < value256 v.den) × (reaches (surd_of v) largest_force ≡ true)
+    ceiling_asks = (
       den-known p.face.legs w.direction w.factor w.pressure p.face.areas p.face.gap.0 w.items hs v (en ∙ numerator-is) radicand-on den-on,
       most-reaches p.face.legs w.direction w.factor w.pressure p.face.areas p.face.gap.0 w.items hs v (en ∙ numerator-is) radicand-on den-on
           p.face.small w.pressure_small w.factor_small w.items_small,
     )
 
-    pub ceiling-gives : (f : ℕ) → Least (only (number (surd_of v))) f → Least (only (force_on p w)) f
-    ceiling-gives =
+    pub ceiling_gives : (f : ℕ) → Least (only (number (surd_of v))) f → Least (only (force_on p w)) f
+    ceiling_gives =
         least-exact p.face.legs w.direction w.factor w.pressure p.face.areas p.face.gap.0 w.items hs v (en ∙ numerator-is) radicand-on den-on

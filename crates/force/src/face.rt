@@ -58,7 +58,7 @@ impl FaceAreas {
     }
 
     // What Kθ and the coefficients together are divided by.
-    #[tactic(auto, unfolding(model::specs::WholeForm::incidence_den, model::specs::WholeForm::face_den))]
+    #[tactic(auto, using(crate::proofs::FaceSums::divisor_fits, crate::proofs::FaceSums::divisor_three), unfolding(model::specs::WholeForm::incidence_den, model::specs::WholeForm::face_den))]
     pub(crate) fn divisor(self) -> u128
         ensures { result ≡ incidence_den self.legs (solid self.areas).0 self.gap.0 * face_den self.legs (gross_of self.areas self.gap.0).0 }
     {

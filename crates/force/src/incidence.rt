@@ -50,7 +50,7 @@ fn incidence_four(k: u32, f: u64, r: u64, e: u64) -> u64
 }
 
 impl FaceAreas {
-    #[tactic(auto, unfolding(model::specs::Areas::solid))]
+    #[tactic(auto, using(crate::proofs::IncidenceFactor::incidence_is_four, crate::proofs::IncidenceFactor::incidence_is_three), unfolding(model::specs::Areas::solid))]
     pub(crate) fn incidence(self, k: u32) -> u64
         ensures { result ≡ incidence_num self.legs k self.areas self.gap.0 }
     {

@@ -15,6 +15,7 @@ use units::Force;
 use wide::{Digit, U256, U512};
 
 // factor (slope g + offset divisor)
+#[tactic(auto, using(crate::proofs::Quotient::num_sum), unfolding(wide::specs::Value::value256))]
 fn numerator(x: Linear, g: u128) -> U256
     requires { x.factor * (x.slope * g + x.offset * x.divisor) < 2 ^ 256 }
     ensures { value256 result ≡ x.factor * (x.slope * g + x.offset * x.divisor) }
@@ -25,6 +26,7 @@ fn numerator(x: Linear, g: u128) -> U256
 }
 
 // (factored · incidence · 10⁶ · A_p · A_u)² · root, and nothing to work out without supercritical members
+#[tactic(auto, using(crate::proofs::Quotient::no_radicand, crate::proofs::FaceSums::words_fit), unfolding(wide::specs::Value::value256, wide::specs::Value::value512))]
 fn radicand(face: FaceAreas, factored: u64, incidence: u64) -> U512
     requires { factored ≤ 10_000_000 }
     ensures { let r = factored * incidence * 1_000_000 * face.areas.supercritical.0 * (gross_of face.areas face.gap.0).0 in value512 result ≡ r * r * root_num face.legs (solid face.areas).0 face.gap.0 }
@@ -40,6 +42,7 @@ fn radicand(face: FaceAreas, factored: u64, incidence: u64) -> U512
 }
 
 // By squares, where there is a root.
+#[tactic(auto, using(crate::proofs::Quotient::num_fits, crate::proofs::Quotient::factored_small))]
 pub(crate) fn least_force(p: PreparedFace, w: Loading, x: Linear) -> Force
     requires { (0 < (solid p.face.areas).0) × LinearOf p w x }
     ensures { Least (only (force_on p w)) result.0 }

@@ -42,6 +42,7 @@ pub struct Loading {
 
 impl FaceAreas {
     // Bounds of the face's sum less its root, where they are known.
+    #[tactic(auto, using(crate::proofs::Bounded::rootless, crate::proofs::Bounded::square_is))]
     fn less_root(self, sum: u128) -> Option<Bounds<u128>>
         ensures { IfSome result (λ b. Between sum (root_square self.legs self.areas self.gap.0) b.low b.high) }
     {
