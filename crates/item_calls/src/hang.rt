@@ -36,6 +36,7 @@ fn validate(s: &State, item: Item) -> Result<(), Refusal>
 }
 
 // The item joins at the end of the list.
+#[tactic(auto, using(crate::proofs::WaysOut::room))]
 pub fn hang(s: &mut State, item: Item) -> Result<(), Refusal>
     ensures { Meets (call.hang item) s.old s.new (answer_reply result) [] }
 {

@@ -1,18 +1,12 @@
-use Rattle.std.proofs.Common.{sym, arith}
+use Rattle.std.proofs.Common.{sym}
 use Rattle.model.specs.Calls.{hang}
 use Rattle.slots.proofs.WaysOut.{handed_on, turned_down}
-use Rattle.item_calls.proofs.WaysOut.{room, in-range, hang-stored}
+use Rattle.item_calls.proofs.WaysOut.{in-range, hang-stored}
 use Rattle.item_calls.proofs.hang.hang.Goals as goal
 
 pub returns-in_err-validate : goal.returns-in_err-validate
 returns-in_err-validate c =
     rw (handed_on _ _ c.from_residual.ensures.1) (turned_down (hang c.args.item) c.args.s.now _ (sym c.in_err-validate.ensures))
-
-pub bounds-s-held : goal.bounds-s-held
-bounds-s-held c = omega (arith, room c.args.s.now c.told-s c.args.item (sym c.in_ok-validate.ensures))
-
-pub set_held-requires : goal.set_held-requires
-set_held-requires c = omega (arith, room c.args.s.now c.told-s c.args.item (sym c.in_ok-validate.ensures))
 
 pub item_slot-requires : goal.item_slot-requires
 item_slot-requires c = in-range c.args.s.now c.told-s c.args.item (sym c.in_ok-validate.ensures)
