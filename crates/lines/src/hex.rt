@@ -1,6 +1,6 @@
 // Bytes in hexadecimal, two digits a byte.
 ghost use Rattle.std.specs.Prelude.{◌≡◌, ◌<◌, ◌≤◌, length, slice_index, IfOk};
-ghost use Rattle.lines.specs.Copied.{result_copied};
+ghost use Rattle.lines.specs.Copied.{result_copied, filled};
 ghost use Rattle.lines.specs.Hex.{hex_digit, hex_value, pair_value, bytes_in};
 
 // What is wrong with a text: it is none in hexadecimal, or of more bytes than there is room for.
@@ -29,10 +29,10 @@ fn pair_value(pair: &[u8]) -> Option<u8>
     Some(hex_value(pair[0])? * 16 + hex_value(pair[1])?)
 }
 
-// The bytes of a text, which are put at the start of out.
-pub fn read_hex<'a>(text: &[u8], out: &'a mut [u8]) -> Result<&'a [u8], HexError>
-    ensures value { result_copied result ≡ bytes_in (length out.old) text.now }
-    ensures within { IfOk result (λ bytes. length bytes.now ≤ length out.old) }
+// Puts the bytes of a text at the start of out, and answers how many they are.
+pub fn fill_hex(text: &[u8], out: &mut [u8]) -> Result<usize, HexError>
+    ensures value { filled out.new result ≡ bytes_in (length out.old) text.now }
+    ensures within { IfOk result (λ count. count ≤ length out.old) }
 {
     if text.len() % 2 == 1 {
         return Err(HexError::Bad);
@@ -44,6 +44,15 @@ pub fn read_hex<'a>(text: &[u8], out: &'a mut [u8]) -> Result<&'a [u8], HexError
     for (i, pair) in text.chunks_exact(2).enumerate() {
         out[i] = pair_value(pair).ok_or(HexError::Bad)?;
     }
+    Ok(count)
+}
+
+// The bytes of a text, which are put at the start of out.
+pub fn read_hex<'a>(text: &[u8], out: &'a mut [u8]) -> Result<&'a [u8], HexError>
+    ensures value { result_copied result ≡ bytes_in (length out.old) text.now }
+    ensures within { IfOk result (λ bytes. length bytes.now ≤ length out.old) }
+{
+    let count = fill_hex(text, out)?;
     Ok(&out[..count])
 }
 

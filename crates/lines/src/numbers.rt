@@ -1,6 +1,6 @@
 // The numbers of a line.
 ghost use Rattle.std.specs.Prelude.{◌≡◌, ◌≤◌, length, IfOk};
-ghost use Rattle.lines.specs.Copied.{result_copied};
+ghost use Rattle.lines.specs.Copied.{result_copied, filled};
 ghost use Rattle.lines.specs.Numbers.{numbers_in, digit_value};
 
 use std::fmt;
@@ -36,10 +36,10 @@ fn digit_value(digit: u8) -> Option<u64>
     }
 }
 
-// The numbers of a line, with one space between two, which are put at the start of out.
-pub fn numbers_of<'a>(line: &[u8], out: &'a mut [u64]) -> Result<&'a [u64], NumbersError>
-    ensures value { result_copied result ≡ numbers_in (length out.old) line.now }
-    ensures within { IfOk result (λ numbers. length numbers.now ≤ length out.old) }
+// Puts the numbers of a line, with one space between two, at the start of out, and answers how many they are.
+pub fn fill_numbers(line: &[u8], out: &mut [u64]) -> Result<usize, NumbersError>
+    ensures value { filled out.new result ≡ numbers_in (length out.old) line.now }
+    ensures within { IfOk result (λ count. count ≤ length out.old) }
 {
     let mut count = 0;
     // The number whose digits are being read.
@@ -61,5 +61,14 @@ pub fn numbers_of<'a>(line: &[u8], out: &'a mut [u64]) -> Result<&'a [u64], Numb
     }
     let last = number.ok_or(NumbersError::Bad)?;
     out[count] = last;
-    Ok(&out[..=count])
+    Ok(count + 1)
+}
+
+// The numbers of a line, which are put at the start of out.
+pub fn numbers_of<'a>(line: &[u8], out: &'a mut [u64]) -> Result<&'a [u64], NumbersError>
+    ensures value { result_copied result ≡ numbers_in (length out.old) line.now }
+    ensures within { IfOk result (λ numbers. length numbers.now ≤ length out.old) }
+{
+    let count = fill_numbers(line, out)?;
+    Ok(&out[..count])
 }
