@@ -14,7 +14,17 @@ use Rattle.model.specs.Answers.{refusal_number}
 use Rattle.model.specs.Reading.{Parsed, got, refused, ranged}
 use Rattle.model.proofs.Readings.{ranged-got}
 use Rattle.model.proofs.Sections.{in-range}
-use Rattle.file_fields.specs.Outcomes.{ReadsAs}
+use Rattle.file_fields.specs.Outcomes.{Says, ReadsAs}
+
+-- by the case that a match has shown
+pub took : {A R : Type 0} {value : R → A} {next : R → ℕ} {s : List ℕ} {p : Parsed A} {r r' : Result R Refusal}
+    → ReadsAs value next s p r → r ≡ r' → Says value next s p r'
+took {value = value} {next = next} {s = s} {p = p} h e = subst (Says value next s p) e h.says
+
+-- a refusal that a match has shown
+pub handed : {A R : Type 0} {value : R → A} {next : R → ℕ} {s : List ℕ} {p : Parsed A} {r : Result R Refusal} {e : Refusal}
+    → ReadsAs value next s p r → r ≡ Err e → p ≡ refused (refusal_number e)
+handed h e = took h e
 
 -- the bytes from a place on, as they are lent
 abbrev pub rest : List ℕ → ℕ → List ℕ
