@@ -26,9 +26,11 @@ pub(crate) enum Word {
     Erect,
 }
 
-// A request with its numbers, or an erect with the bytes of its file.
+// A request with its numbers, or an erect with the bytes of its file: the slices themselves or how many they are.
 #[derive(Clone, Copy, Debug, PartialEq, Eq)]
-pub enum Request<'n, 'f> {
-    Numbered(Verb, &'n [u64]),
-    Erect(&'f [u8]),
+pub enum Request<N, F> {
+    Numbered(Verb, N),
+    Erect(F),
 }
+
+pub type LentRequest<'n, 'f> = Request<&'n [u64], &'f [u8]>;
