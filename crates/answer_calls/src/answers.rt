@@ -12,16 +12,14 @@ use crate::tower::tower_in;
 use model::Refusal;
 use rows::loads::LoadedTower;
 use slots::State;
-use slots::head::{count_in, is_standing};
+use slots::head::{count_in, expect_tower};
 
 // The tower under its wind, or which of the two does not stand.
 fn loaded_tower(s: &State) -> Result<LoadedTower<'_>, Refusal>
     ensures refused { IfErr result (λ e. refusal_number e ≡ call.refusal_of (state_of s.now) call.check) }
     ensures loaded { IfOk result (λ t. (t.state.now ≡ s.now) × (state_of s.now ≡ standing (held.tower_in s.now) (some (wind_in s.now)))) }
 {
-    if !is_standing(s) {
-        return Err(Refusal::NoTower);
-    }
+    expect_tower(s)?;
     LoadedTower::new(s).ok_or(Refusal::NoWind)
 }
 
@@ -48,8 +46,6 @@ pub fn check(s: &State) -> Result<Option<usize>, Refusal>
 pub fn write(s: &State, out: &mut [u8]) -> Result<usize, Refusal>
     ensures { Meets (call.write out.old) s.now s.now (write_reply result) out.new }
 {
-    if !is_standing(s) {
-        return Err(Refusal::NoTower);
-    }
+    expect_tower(s)?;
     tower_file::file::write(&tower_in(s), out)
 }

@@ -9,7 +9,7 @@ use crate::places::place_of;
 use areas::ranges::fields_in_range;
 use model::{Item, Refusal};
 use slots::State;
-use slots::head::{count_in, held_in, is_standing, set_held};
+use slots::head::{count_in, expect_tower, held_in, set_held};
 use slots::items::{ITEMS, item_slot, item_slots};
 
 // Document 01's rules of hang, in their order.
@@ -17,9 +17,7 @@ use slots::items::{ITEMS, item_slot, item_slots};
 fn validate(s: &State, item: Item) -> Result<(), Refusal>
     ensures { answer_number result ≡ call.refusal_of (state_of s.now) (call.hang item) }
 {
-    if !is_standing(s) {
-        return Err(Refusal::NoTower);
-    }
+    expect_tower(s)?;
     if 64 <= held_in(s) {
         return Err(Refusal::ItemCount);
     }

@@ -7,7 +7,7 @@ ghost use Rattle.item_calls.specs.Places.{has_another};
 
 use crate::places::place_of;
 use model::Refusal;
-use slots::head::{held_in, is_standing, set_held};
+use slots::head::{expect_tower, held_in, set_held};
 use slots::items::{ITEMS, item_slots, number_in};
 use slots::{Slot, State};
 
@@ -31,9 +31,7 @@ fn close_up(items: &mut [Slot], number: u16) -> usize
 pub fn take_down(s: &mut State, number: u16) -> Result<(), Refusal>
     ensures { Meets (call.take_down number) s.old s.new (answer_reply result) [] }
 {
-    if !is_standing(s) {
-        return Err(Refusal::NoTower);
-    }
+    expect_tower(s)?;
     let place = place_of(item_slots(s), number).ok_or(Refusal::NoSuchItem)?;
     let held = held_in(s);
     let rest = close_up(&mut s[ITEMS + place..ITEMS + held], number);

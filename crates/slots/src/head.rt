@@ -1,11 +1,12 @@
 // Slot 0: what stands, and the counts.
-ghost use Rattle.std.specs.Prelude.{◌≡◌, ◌≤◌};
+ghost use Rattle.std.specs.Prelude.{◌≡◌, ◌≤◌, true, false, IfOk, IfErr};
 ghost use Rattle.model.specs.File.{legs_of};
+ghost use Rattle.model.specs.declared.Refusal.TheVariants.{NoTower};
 ghost use Rattle.slots.specs.Held.{is_standing, count_in, held_in, cell, NextCell};
 
 use crate::{Slot, State};
-use model::Legs;
 use model::ranges::{ITEM_COUNT, SECTION_COUNT};
+use model::{Legs, Refusal};
 
 // Its cells.
 pub const STANDING: usize = 0;
@@ -29,6 +30,14 @@ pub fn is_standing(s: &State) -> bool
     ensures { result ≡ is_standing s.now }
 {
     s[0][STANDING] == 1
+}
+
+// The first rule of each call but erect.
+pub fn expect_tower(s: &State) -> Result<(), Refusal>
+    ensures stands { IfOk result (λ _. is_standing s.now ≡ true) }
+    ensures fallen { IfErr result (λ e. (e ≡ NoTower) × (is_standing s.now ≡ false)) }
+{
+    is_standing(s).then_some(()).ok_or(Refusal::NoTower)
 }
 
 pub fn legs_in(s: &State) -> Legs

@@ -13,7 +13,7 @@ use areas::ice::Ice;
 use areas::ranges::fits_under;
 use model::ranges::{ICE_CLASSES, PRESSURES, STRUCTURE_FACTOR};
 use model::{Refusal, Wind};
-use slots::head::{DIRECTION, FACTOR, ICE, WINDY, count_in, is_standing, legs_in};
+use slots::head::{DIRECTION, FACTOR, ICE, WINDY, count_in, expect_tower, legs_in};
 use slots::sections::{put_section, section_at};
 use slots::wind::ice_on;
 use slots::{Slot, State};
@@ -46,9 +46,7 @@ fn sections_fit(s: &State, ice: Ice) -> bool
 fn validate(s: &State, wind: Wind) -> Result<(), Refusal>
     ensures { answer_number result ≡ call.refusal_of (state_of s.now) (call.wind (wind_of wind.entry)) }
 {
-    if !is_standing(s) {
-        return Err(Refusal::NoTower);
-    }
+    expect_tower(s)?;
     if !legs_in(s).allows_direction(wind.direction) {
         return Err(Refusal::Direction);
     }

@@ -1,9 +1,11 @@
-use Rattle.std.proofs.Common.{sym, ◌∙◌}
+use Rattle.slots.proofs.WaysOut.{handed_on}
 use Rattle.answer_calls.proofs.WaysOut.{write-fallen, write_done}
 use Rattle.answer_calls.proofs.answers.write.Goals as goal
 
-pub returns-then-not-is_standing : goal.returns-then-not-is_standing
-returns-then-not-is_standing c = write-fallen c.args.s.now (sym c.is_standing.ensures ∙ c.if-not-is_standing.true) c.args.out.now
+pub returns-in_err-expect_tower : goal.returns-in_err-expect_tower
+returns-in_err-expect_tower c =
+    let p = c.in_err-expect_tower.ensures.fallen in
+    rw (handed_on _ _ c.from_residual.ensures.1, p.0) (write-fallen c.args.s.now p.1 c.args.out.now)
 
 pub returns : goal.returns
-returns c = write_done c.args.s.now (sym c.is_standing.ensures ∙ c.if-not-is_standing.false) c.args.out.now c.tower_in.ensures c.write.ensures
+returns c = write_done c.args.s.now c.in_ok-expect_tower.ensures.stands c.args.out.now c.tower_in.ensures c.write.ensures
