@@ -1,5 +1,5 @@
 -- A section that may stand under ice.
-use Rattle.std.specs.Prelude.{◌%◌, ◌^◌, Bool, ◌&&◌, leb, ltb, eqb, length}
+use Rattle.std.specs.Prelude.{◌%◌, ◌^◌, Bool, ◌&&◌, leb, ltb, eqb}
 use Rattle.units.specs.declared.Length.{Length}
 use Rattle.model.specs.declared.Section.{Section}
 use Rattle.model.specs.Ranges.{within, section_width, section_height, group_count}
@@ -11,8 +11,9 @@ use Rattle.model.specs.Valid.{section_fits}
 unfoldable pub fits_under : Length → Section → Bool
 fits_under t s =
     leb t.0 50
+    && (leb s.groups.count 8
     && (section_fits (section_of s)
-    && leb (solid_of t (section_of s).groups).0 (gross (section_of s)).0)
+    && leb (solid_of t (section_of s).groups).0 (gross (section_of s)).0))
 
 -- what section_fits asks beside the groups and the bare A_S
 unfoldable pub sizes_fit : Section → Bool
@@ -21,4 +22,4 @@ sizes_fit s =
     && within section_height s.height.0
     && eqb (s.height.0 % 2) 0
     && ltb s.allowance.0 (2 ^ 32)
-    && within group_count (length s.groups.items)
+    && within group_count s.groups.count

@@ -11,7 +11,7 @@ ghost use Rattle.areas.specs.Sums.{SmallAreas};
 use crate::ice::Ice;
 use crate::section::{add_group, gross_area};
 use model::ranges::{
-    COEFFICIENTS, GROUP_COUNT, ITEM_LENGTH, ITEM_WIDTH, MEMBER_LENGTH, MEMBER_SIZE,
+    COEFFICIENTS, ITEM_LENGTH, ITEM_WIDTH, MEMBER_LENGTH, MEMBER_SIZE,
     POSITION_FACTOR, SECTION_HEIGHT, SECTION_WIDTH,
 };
 use model::{Areas, Group, Item, Section};
@@ -48,7 +48,8 @@ pub fn sizes_fit(section: &Section) -> bool
         && SECTION_HEIGHT.contains(section.height.0)
         && section.height.0 % 2 == 0
         && section.allowance.0 < 4_294_967_296
-        && GROUP_COUNT.contains(section.groups.len() as u32)
+        && 1 <= section.groups.count
+        && section.groups.count <= 8
 }
 
 // The areas of the groups under pressure q, where all are in range.

@@ -1,5 +1,6 @@
 -- What is wrong with a case: the first test that fails.
 use Rattle.std.specs.Prelude.{ℕ, ◌+◌, ◌*◌, Bool, cond, ◌&&◌, leb, length, Option, Some, None}
+use Rattle.counted.specs.Elements.{elements}
 use Rattle.units.specs.declared.Length.{Length}
 use Rattle.model.specs.declared.Section.{Section}
 use Rattle.model.specs.Lists.{all_of}
@@ -20,7 +21,7 @@ tested met x rest = cond met rest (Some x)
 
 -- the place after the groups
 abbrev pub groups_end : Section → ℕ
-groups_end s = 8 + 3 * length s.groups.items
+groups_end s = 8 + 3 * length (elements s.groups)
 
 -- A_S is at most A_u, bare and under ice of thickness t
 abbrev pub solid_fits : Length → Section → Bool

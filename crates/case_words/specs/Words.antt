@@ -1,12 +1,12 @@
 -- What a run of numbers means: a section, the wind on it, and items.
-use Rattle.std.specs.Prelude.{ℕ, ◌+◌, ◌*◌, min, cond, List, [], eqb, leb, ltb, get_or}
+use Rattle.std.specs.Prelude.{ℕ, ◌+◌, ◌*◌, min, cond, List, [], ◌∷◌, eqb, ltb, get_or, refl}
+use Rattle.counted.specs.declared.Counted.{Counted}
 use Rattle.units.specs.declared.Length.{Length}
 use Rattle.model.specs.declared.Member.{Member}
 use Rattle.model.specs.declared.Member.TheVariants.{Flat, Round}
 use Rattle.model.specs.declared.Group.{Group}
 use Rattle.model.specs.declared.Item.{Item}
 use Rattle.model.specs.declared.Section.{Section}
-use Rattle.model.specs.Lists.{list_to}
 use Rattle.case_words.specs.declared.Case.{Case}
 
 -- 0 past the end
@@ -35,9 +35,23 @@ group_of ws i =
       length = record { 0 = in32 (at ws (10 + 3 * i)) };
     }
 
--- so many groups; none, which no section may have, where they are more than 8
-unfoldable pub groups_of : List ℕ → List Group
-groups_of ws = cond (leb (in32 (at ws 7)) 8) (list_to (group_of ws) (in32 (at ws 7))) []
+-- the eight groups that may be told, and how many are
+unfoldable pub groups_of : List ℕ → Counted Group 8
+groups_of ws =
+    record {
+      count = in32 (at ws 7);
+      places =
+        group_of ws 0
+        ∷ group_of ws 1
+        ∷ group_of ws 2
+        ∷ group_of ws 3
+        ∷ group_of ws 4
+        ∷ group_of ws 5
+        ∷ group_of ws 6
+        ∷ group_of ws 7
+        ∷ [];
+      whole = refl;
+    }
 
 unfoldable pub section_in : List ℕ → Section
 section_in ws =
@@ -45,7 +59,7 @@ section_in ws =
       width = record { 0 = in32 (at ws 5) };
       height = record { 0 = in32 (at ws 6) };
       allowance = record { 0 = 0 };
-      groups = record { items = groups_of ws };
+      groups = groups_of ws;
     }
 
 unfoldable pub case_in : List ℕ → Case

@@ -3,7 +3,7 @@ ghost use Rattle.std.specs.Prelude.{◌≡◌, ◌<◌};
 ghost use Rattle.case_words.specs.Words.{member_read, group_of, groups_of};
 
 use crate::words::{word, word32};
-use arrayvec::ArrayVec;
+use counted::Counted;
 use model::{Group, Member};
 use units::Length;
 
@@ -29,17 +29,22 @@ fn group_at(numbers: &[u64], i: usize) -> Group
     }
 }
 
-// No groups, which no section may have, where they are more than 8.
+// All groups that there may be, and how many are told: a section may have no more than 8.
 #[tactic(auto, unfolding(crate::specs::Words::groups_of))]
-pub fn groups_of(numbers: &[u64]) -> ArrayVec<Group, 8>
-    ensures { result.items ≡ groups_of numbers.now }
+pub fn groups_of(numbers: &[u64]) -> Counted<Group, 8>
+    ensures { result ≡ groups_of numbers.now }
 {
-    let count = word32(numbers, 7) as usize;
-    let mut groups = ArrayVec::new();
-    if count <= 8 {
-        for i in 0..count {
-            groups.push(group_at(numbers, i));
-        }
+    Counted {
+        count: word32(numbers, 7) as usize,
+        places: [
+            group_at(numbers, 0),
+            group_at(numbers, 1),
+            group_at(numbers, 2),
+            group_at(numbers, 3),
+            group_at(numbers, 4),
+            group_at(numbers, 5),
+            group_at(numbers, 6),
+            group_at(numbers, 7),
+        ],
     }
-    groups
 }

@@ -18,7 +18,7 @@ use std::fmt;
 use units::{Force, Length};
 
 // The section and the wind on it, with no test of any range.
-#[derive(Clone, Debug, PartialEq, Eq, Drop)]
+#[derive(Clone, Copy, Debug, PartialEq, Eq)]
 pub struct Case {
     pub legs: u32,
     pub direction: u32,

@@ -1,11 +1,13 @@
 // Drawn arguments of calls, most of which suit the tower that stands.
-ghost use Rattle.std.specs.Prelude.{◌≡◌, ◌<◌, ◌≤◌, IfSome};
+ghost use Rattle.std.specs.Prelude.{◌≡◌, ◌%◌, ◌<◌, ◌≤◌, true, false, IfSome};
+ghost use Rattle.counted.specs.Elements.{elements};
+ghost use Rattle.draws.specs.Draws.{drawn};
 
 use crate::fields::Draws;
 use crate::keys::Key;
 use crate::sections::FLOW_LIMITS;
 use crate::towers::item_of;
-use arrayvec::ArrayVec;
+use counted::Counted;
 use model::ranges::{DIRECTIONS, ICE_CLASSES, PRESSURES, STRUCTURE_FACTOR};
 use model::{Item, Legs, Wind};
 
@@ -27,8 +29,13 @@ pub enum CallKind {
 }
 
 impl CallKind {
+    ghost use Rattle.draws.specs.declared.arguments.CallKind.TheVariants as kind;
+
     // What is missing, a tower or a wind, comes more often.
-    pub fn drawn(key: Key, standing: bool, windy: bool) -> CallKind {
+    pub fn drawn(key: Key, standing: bool, windy: bool) -> CallKind
+        ensures erects { drawn key.0 0 % 3 ≡ 0 → standing ≡ false → result ≡ kind.Erect true }
+        ensures blows { drawn key.0 0 % 3 ≡ 0 → standing ≡ true → windy ≡ false → result ≡ kind.Wind }
+    {
         let soon = key.once_in(0, 3);
         if soon && !standing {
             return CallKind::Erect { sound: true };
@@ -50,12 +57,12 @@ impl CallKind {
 }
 
 // The arguments of a wind.
-#[derive(Clone, Debug, PartialEq, Eq, Drop)]
+#[derive(Clone, Copy, Debug, PartialEq, Eq)]
 pub struct DrawnWind {
     pub direction: u32,
     pub ice: u32,
     pub factor: u32,
-    pub pressures: ArrayVec<u16, 40>,
+    pub pressures: Counted<u16, 40>,
 }
 
 impl DrawnWind {
@@ -63,7 +70,7 @@ impl DrawnWind {
         ensures direction { result.direction ≡ self.now.direction }
         ensures ice { result.ice ≡ self.now.ice }
         ensures factor { result.factor ≡ self.now.factor }
-        ensures pressures { result.pressures.now ≡ self.now.pressures.items }
+        ensures pressures { result.pressures.now ≡ elements self.now.pressures }
     {
         Wind {
             direction: self.direction,
@@ -143,10 +150,11 @@ fn pressure(draws: Draws) -> u16 {
 }
 
 // So many pressures, each of them wrong once in `odds` cases.
-fn pressures(draws: Draws, count: u64) -> ArrayVec<u16, 40>
+fn pressures(draws: Draws, count: u64) -> Counted<u16, 40>
     requires { count ≤ 40 }
+    ensures { result.count ≤ 40 }
 {
-    let mut pressures = ArrayVec::new();
+    let mut pressures = Counted::new();
     for place in 0..count {
         pressures.push(pressure(draws.part(place)));
     }
@@ -154,7 +162,9 @@ fn pressures(draws: Draws, count: u64) -> ArrayVec<u16, 40>
 }
 
 // A wind for a tower with so many sections. With more of them a pressure is wrong less often.
-pub fn wind_of(key: Key, legs: Legs, sections: u64) -> DrawnWind {
+pub fn wind_of(key: Key, legs: Legs, sections: u64) -> DrawnWind
+    ensures { result.pressures.count ≤ 40 }
+{
     let draws = Draws {
         key,
         odds: Some(WIND_ODDS),

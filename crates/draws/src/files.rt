@@ -1,18 +1,19 @@
 // A file that is put together.
 ghost use Rattle.std.specs.Prelude.{◌≤◌};
 
-use arrayvec::ArrayVec;
+use counted::Counted;
 
 // A tower file, sound or damaged. That of the largest tower has 2915 bytes.
-#[derive(Clone, Debug, PartialEq, Eq, Drop)]
+#[derive(Clone, Copy, Debug, PartialEq, Eq)]
 pub struct File {
-    pub bytes: ArrayVec<u8, 3000>,
+    pub bytes: Counted<u8, 3000>,
+    ghost few: { bytes.count ≤ 3000 },
 }
 
 impl File {
     pub(crate) fn new() -> File {
         File {
-            bytes: ArrayVec::new(),
+            bytes: Counted::new(),
         }
     }
 
@@ -20,7 +21,10 @@ impl File {
     pub(crate) fn put(&mut self, width: usize, number: u32)
         requires { width ≤ 4 }
     {
-        let bytes = number.to_be_bytes();
-        let _ = self.bytes.try_extend_from_slice(&bytes[4 - width..]);
+        for b in &number.to_be_bytes()[4 - width..] {
+            if self.bytes.len() < 3000 {
+                self.bytes.push(*b);
+            }
+        }
     }
 }

@@ -149,7 +149,7 @@ fn damaged_file(key: Key, extent: Extent) -> File {
     }
     let any = key.index(4, file.bytes.len());
     match damage {
-        Damage::Byte => file.bytes[any] = key.within(5, 0..=255) as u8,
+        Damage::Byte => file.bytes.set(any, key.within(5, 0..=255) as u8),
         Damage::Behind => file.put(key.within(5, 1..=3) as usize, any as u32),
         Damage::Cut => file.bytes.truncate(any),
         Damage::Fields { .. } => {}
@@ -158,7 +158,9 @@ fn damaged_file(key: Key, extent: Extent) -> File {
 }
 
 // A file for a list, which is accepted if it is sound.
-pub fn drawn_file(list: Key, key: Key, sound: bool) -> File {
+pub fn drawn_file(list: Key, key: Key, sound: bool) -> File
+    ensures { result.bytes.count ≤ 3000 }
+{
     let extent = extent_of(list, key);
     if sound {
         sound_file(key, extent)
@@ -168,7 +170,9 @@ pub fn drawn_file(list: Key, key: Key, sound: bool) -> File {
 }
 
 // A file without items, which is accepted.
-pub fn bare_file(key: Key, sections: u64) -> File {
+pub fn bare_file(key: Key, sections: u64) -> File
+    ensures { result.bytes.count ≤ 3000 }
+{
     sound_file(key, Extent { sections, items: 0 })
 }
 

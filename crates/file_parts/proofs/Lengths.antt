@@ -4,6 +4,7 @@ use mathlib.Core.Path.{◌≡◌, refl, ap, ◌∙◌}
 use mathlib.Core.List.{List, [], map}
 use lib.ListN.{length, take, get_or, length-append}
 use Rattle.std.proofs.lemmas.List.{map_more}
+use Rattle.counted.specs.Elements.{elements}
 use Rattle.model.specs.declared.Section.{Section}
 use Rattle.model.specs.Lists.{joined}
 use Rattle.model.specs.Tower.{section_of}
@@ -18,7 +19,7 @@ unfolding joined
 no_sections = refl
 
 pub section_more : (l : List Section) (i : ℕ) (s : Section) → i < length l → s ≡ get_or l i s
-    → length (sections_bytes (take (i + 1) l)) ≡ length (sections_bytes (take i l)) + (9 + 7 * length s.groups.items)
+    → length (sections_bytes (take (i + 1) l)) ≡ length (sections_bytes (take i l)) + (9 + 7 * length (elements s.groups))
 section_more l i s h e =
     let more = ap (λ (m : List _). length (joined section_bytes m)) (map_more section_of l i s h)
     ∙ ap length (joined-more section_bytes (map section_of (take i l)) (section_of (get_or l i s)))

@@ -1,6 +1,6 @@
 // The ancillary items, in hanging order.
 ghost use Rattle.std.specs.Prelude.{◌%◌, ◌≤◌, ◌<◌, ◌≡◌, List, [], ◌∷◌, ◌++◌, length};
-ghost use Rattle.arrayvec.specs.ArrayVec.{array_vec_len};
+ghost use Rattle.counted.specs.Elements.{elements, element_count};
 ghost use Rattle.model.specs.declared.Item.{Item};
 ghost use Rattle.model.specs.File.{numbered, read_item_fields, read_items};
 ghost use Rattle.model.specs.Bytes.{item_field_bytes, item_bytes};
@@ -10,7 +10,7 @@ ghost use Rattle.file_parts.specs.Marks.{Marked};
 ghost use Rattle.file_parts.specs.Parts.{read_item_rest, read_item_part};
 
 use crate::parts::ToBytes;
-use arrayvec::ArrayVec;
+use counted::Counted;
 use file_fields::Parsed;
 use file_fields::fields::{read_field, read_ranged, write_field};
 use model::ranges::{COEFFICIENTS, ITEM_COUNT, ITEM_LENGTH, ITEM_WIDTH, POSITION_FACTOR};
@@ -26,16 +26,16 @@ const MARKS: usize = 1024;
 // Items, and the marks of their numbers: a number is compared with theirs only where one of them left its mark.
 #[derive(Drop)]
 struct Numbered {
-    items: ArrayVec<Item, 64>,
+    items: Counted<Item, 64>,
     marks: [bool; MARKS],
-    ghost marked: { Marked marks items.items },
+    ghost marked: { Marked marks (elements items) },
 }
 
 impl Numbered {
     fn new() -> Numbered
-        ensures { result.items.items ≡ [] }
+        ensures { elements result.items ≡ [] }
     {
-        let items = ArrayVec::new();
+        let items = Counted::new();
         let marks = [false; MARKS];
         Numbered { items, marks }
     }
@@ -49,14 +49,14 @@ impl Numbered {
     }
 
     fn contains(&self, number: u16) -> bool
-        ensures { result ≡ numbered number self.now.items.items }
+        ensures { result ≡ numbered number (elements self.now.items) }
     {
         self.marks[Numbered::mark_of(number)] && self.items.iter().any(|item| item.number == number)
     }
 
     fn push(&mut self, item: Item)
-        requires { array_vec_len self.old.items < 64 }
-        ensures { self.new.items.items ≡ self.old.items.items ++ item ∷ [] }
+        requires { element_count self.old.items < 64 }
+        ensures { elements self.new.items ≡ elements self.old.items ++ item ∷ [] }
     {
         self.items.push(item);
         self.marks[Numbered::mark_of(item.number)] = true;
@@ -99,9 +99,9 @@ fn read_item_rest(file: &[u8], sections: usize, number: u16) -> Parsed<Item>
 }
 
 // So many items. Whether one is read depends on those before it, so read_each does not serve.
-fn read_items(file: &[u8], sections: usize, count: usize) -> Parsed<ArrayVec<Item, 64>>
+fn read_items(file: &[u8], sections: usize, count: usize) -> Parsed<Counted<Item, 64>>
     requires { count ≤ 64 }
-    ensures { ReadsAs (λ read. read.0.items) (λ read. read.1) file.now (read_items sections count file.now) result }
+    ensures { ReadsAs (λ read. elements read.0) (λ read. read.1) file.now (read_items sections count file.now) result }
 {
     let mut earlier = Numbered::new();
     let mut at = 0;
@@ -121,8 +121,8 @@ fn read_items(file: &[u8], sections: usize, count: usize) -> Parsed<ArrayVec<Ite
 }
 
 // Their count, then the items.
-pub fn read_item_part(file: &[u8], sections: usize) -> Parsed<ArrayVec<Item, 64>>
-    ensures { ReadsAs (λ read. read.0.items) (λ read. read.1) file.now (read_item_part sections file.now) result }
+pub fn read_item_part(file: &[u8], sections: usize) -> Parsed<Counted<Item, 64>>
+    ensures { ReadsAs (λ read. elements read.0) (λ read. read.1) file.now (read_item_part sections file.now) result }
 {
     let (count, at) = read_ranged(file, 0, 1, ITEM_COUNT, Refusal::ItemCount)?;
     let (items, used) = read_items(&file[at..], sections, count as usize)?;

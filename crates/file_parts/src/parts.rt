@@ -1,13 +1,13 @@
 // Parts of one kind, one behind another.
 ghost use Rattle.std.specs.Prelude.{ℕ, List, ◌+◌, ◌≤◌, length, map};
-ghost use Rattle.arrayvec.specs.ArrayVec.{array_vec_len};
+ghost use Rattle.counted.specs.Elements.{elements, element_count};
 ghost use Rattle.model.specs.Lists.{joined};
 ghost use Rattle.model.specs.Reading.{Parsed, many};
 ghost use Rattle.model.specs.Bytes.{bytes};
 ghost use Rattle.file_fields.specs.Outcomes.{ReadsAs};
 ghost use Rattle.file_fields.specs.Written.{Puts};
 
-use arrayvec::ArrayVec;
+use counted::Counted;
 use file_fields::Parsed;
 use file_fields::fields::write_field;
 use model::Refusal;
@@ -28,11 +28,11 @@ pub trait FromBytes {
 pub fn read_each<T: FromBytes + Drop, const N: usize>(
     file: &[u8],
     count: usize,
-    parts: &mut ArrayVec<T, N>,
+    parts: &mut Counted<T, N>,
 ) -> Result<usize, Refusal>
-    requires { array_vec_len parts.old + count ≤ N }
-    ensures { ReadsAs (λ next. map T.value_of parts.new.items) (λ next. next) file.now
-        (many (λ earlier. T.reading) count (map T.value_of parts.old.items) file.now) result }
+    requires { element_count parts.old + count ≤ N }
+    ensures { ReadsAs (λ next. map T.value_of (elements parts.new)) (λ next. next) file.now
+        (many (λ earlier. T.reading) count (map T.value_of (elements parts.old)) file.now) result }
 {
     let mut at = 0;
     for _ in 0..count {

@@ -12,7 +12,7 @@ use crate::parts::{FromBytes, ToBytes, read_each, write_each};
 use areas::face::Face;
 use areas::ice::Ice;
 use areas::section::gross_area;
-use arrayvec::ArrayVec;
+use counted::Counted;
 use file_fields::Parsed;
 use file_fields::fields::{read_field, read_ranged, write_field};
 use model::ranges::{GROUP_COUNT, SECTION_HEIGHT, SECTION_WIDTH};
@@ -59,7 +59,7 @@ impl FromBytes for Section {
     // Its bare A_S is tested after its last group.
     fn read(file: &[u8]) -> Parsed<Section> {
         let (head, at) = read_head(file)?;
-        let mut groups = ArrayVec::new();
+        let mut groups = Counted::new();
         let used = read_each(&file[at..], head.count, &mut groups)?;
         let section = Section {
             width: head.width,

@@ -20,6 +20,7 @@ use Rattle.exact.specs.Number as exact
 use Rattle.exact.specs.Number.{greater, this, later, only, Sound, AtLeast, Least}
 use Rattle.exact.proofs.Lists.{every-all, every-mapped, every-at}
 use Rattle.exact.proofs.Greatest.{at-least-only, only-at-least, at-least-left, least-join, least-covered}
+use Rattle.counted.specs.Elements.{elements}
 use Rattle.model.specs.declared.Group.{Group}
 use Rattle.model.specs.Lists.{any_of, joined}
 use Rattle.model.specs.Tower.{section_of}
@@ -52,7 +53,7 @@ listed p (r ∷ ps) h = go (eqb p r) refl h (listed p ps)
 
 module _ (s : SectionInWind) (h : fits_under s.ice s.section ≡ true) where
   abbrev groups : List Group
-  groups = s.section.groups.items
+  groups = elements s.section.groups
 
   abbrev winds : List Group → List ℕ
   winds gs = lesser_winds s.ice s.pressure gs

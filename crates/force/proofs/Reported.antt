@@ -84,14 +84,14 @@ module _ (s s' : SectionInWind) (e : Alike s s') (i : ℕ) (h : i < 32) {xs ys :
 
 module _ (t : Tower) (w : Wind) (i : ℕ) where
   -- a section of a valid tower fits under the ice of a wind that the tower takes
-  pub valid-fits : (s : stored.Section) → section_of s ≡ section_at t i → ValidWind t w → i < length t.sections → fits_under (thickness w.ice) s ≡ true
+  pub valid-fits : (s : stored.Section) → section_of s ≡ section_at t i → s.groups.count ≤ 8 → ValidWind t w → i < length t.sections → fits_under (thickness w.ice) s ≡ true
   unfolding fits_under
-  valid-fits s e v h =
+  valid-fits s e few v h =
       let f : section_fits (section_of s) ≡ true =
       subst (λ (x : Section). section_fits x ≡ true) (sym e) (fits-at t w v i h) in
       let g : (solid_of (thickness w.ice) (section_of s).groups).0 ≤ (gross (section_of s)).0 =
       subst (λ (x : Section). (solid_of (thickness w.ice) x.groups).0 ≤ (gross x).0) (sym e) (solid-under t w v i h) in
-      and-join (le-leb _ 50 (ice-at t w v i h)) (and-join f (le-leb _ _ g))
+      and-join (le-leb _ 50 (ice-at t w v i h)) (and-join (le-leb _ 8 few) (and-join f (le-leb _ _ g)))
 
   -- this is section i of the report
   pub record Reports (s : SectionInWind) : Type 0 where

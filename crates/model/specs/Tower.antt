@@ -1,5 +1,6 @@
 -- Towers and winds of document 01, over lists; and what the values that programs hold are to it.
 use Rattle.std.specs.Prelude.{ℕ, List, map}
+use Rattle.counted.specs.Elements.{elements}
 use Rattle.units.specs.declared.Length.{Length}
 use Rattle.units.specs.declared.Force.{Force}
 use Rattle.model.specs.declared.Legs.{Legs}
@@ -29,22 +30,22 @@ pub record Wind : Type 0 where
   pub factor : ℕ
   pub pressures : List ℕ
 
--- the section, the tower and the wind that a program's value stands for
+-- the section, the tower and the wind that a program's value stands for: of its arrays the elements that count
 abbrev pub section_of : stored-section.Section → Section
 section_of s =
     record {
       width = s.width;
       height = s.height;
       allowance = s.allowance;
-      groups = s.groups.items;
+      groups = elements s.groups;
     }
 
 abbrev pub tower_of : stored-tower.Tower → Tower
 tower_of t =
     record {
       legs = t.legs;
-      sections = map section_of t.sections.items;
-      items = t.items.items;
+      sections = map section_of (elements t.sections);
+      items = elements t.items;
     }
 
 abbrev pub wind_of : stored-wind.Wind → Wind

@@ -7,7 +7,7 @@ ghost use Rattle.model.specs.Areas.{size_of, solid};
 ghost use Rattle.model.specs.Bytes.{kind_of};
 ghost use Rattle.model.specs.File.{member_of};
 
-use arrayvec::ArrayVec;
+use counted::Counted;
 use units::{Area, Force, Length};
 
 pub mod numbers;
@@ -80,12 +80,12 @@ pub struct Group {
 }
 
 // A section: mean width b, height h, shear allowance (0: none is stated), and its groups.
-#[derive(Clone, Debug, PartialEq, Eq, Default, Drop)]
+#[derive(Clone, Copy, Debug, PartialEq, Eq, Default)]
 pub struct Section {
     pub width: Length,
     pub height: Length,
     pub allowance: Force,
-    pub groups: ArrayVec<Group, 8>,
+    pub groups: Counted<Group, 8>,
 }
 
 // An ancillary item: its number, the section that it hangs on, its size, and its coefficients and position factor K in
@@ -102,11 +102,11 @@ pub struct Item {
 }
 
 // Legs, the sections from the top, and the items in hanging order.
-#[derive(Clone, Debug, PartialEq, Eq, Drop)]
+#[derive(Clone, Copy, Debug, PartialEq, Eq)]
 pub struct Tower {
     pub legs: Legs,
-    pub sections: ArrayVec<Section, 32>,
-    pub items: ArrayVec<Item, 64>,
+    pub sections: Counted<Section, 32>,
+    pub items: Counted<Item, 64>,
 }
 
 // The wind that a call sets: direction, ice class, structure factor in thousandths, and a pressure for each section.

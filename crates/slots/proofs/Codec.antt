@@ -64,10 +64,10 @@ pub group-back : (g : Group) → group_fits g ≡ true → group_in (group_numbe
 unfolding group_number
 group-back g h = rw h (back g.member g.length (group-facts g h).size.high)
 
--- a section of the code that stands by the code's test stands by the definition's
-pub fits-stands : (t : Length) (x : stored.Section) → t.0 ≤ 50 → fits_under t x ≡ stands_under t (section_of x)
+-- of a section with at most 8 groups, the code's test is the definition's
+pub fits-stands : (t : Length) (x : stored.Section) → t.0 ≤ 50 → x.groups.count ≤ 8 → fits_under t x ≡ stands_under t (section_of x)
 unfolding fits_under
-fits-stands t x thin = rw (le-leb t.0 50 thin)
+fits-stands t x thin few = rw (le-leb t.0 50 thin, le-leb x.groups.count 8 few)
 
 -- the least section stands under any ice
 pub least-stands : (t : Length) → t.0 ≤ 50 → stands_under t least_section ≡ true
@@ -98,9 +98,9 @@ unfolding item_of
 item_back it a b d e f h = rw (mod-eq_of_lt a, mod-eq_of_lt b, mod-eq_of_lt d, mod-eq_of_lt e, mod-eq_of_lt f, h)
 
 -- a section that was read and stands, or the least one
-module _ (t : Length) (thin : t.0 ≤ 50) (a b : List ℕ) (x : stored.Section) (h : section_of x ≡ section_in a b) where
+module _ (t : Length) (thin : t.0 ≤ 50) (a b : List ℕ) (x : stored.Section) (h : section_of x ≡ section_in a b) (few : x.groups.count ≤ 8) where
   stands : {v : Bool} → fits_under t x ≡ v → stands_under t (section_in a b) ≡ v
-  stands e = ap (stands_under t) (sym h) ∙ sym (fits-stands t x thin) ∙ e
+  stands e = ap (stands_under t) (sym h) ∙ sym (fits-stands t x thin few) ∙ e
 
   pub section-good : fits_under t x ≡ true → (section_of x ≡ section_in_slots t a b) × (fits_under t x ≡ true)
   unfolding section_in_slots

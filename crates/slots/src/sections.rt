@@ -1,5 +1,6 @@
 // Sections in slots.
 ghost use Rattle.std.specs.Prelude.{◌≡◌, true, ◌+◌, ◌*◌, ◌≤◌, ◌<◌, length, map};
+ghost use Rattle.counted.specs.Elements.{elements};
 ghost use Rattle.model.specs.Tower as tower;
 ghost use Rattle.units.specs.declared.Length.{Length};
 ghost use Rattle.model.specs.Lists.{all_of};
@@ -10,7 +11,7 @@ ghost use Rattle.slots.specs.Held.{slot, group_in, group_number, section_in, sec
 use crate::{Slot, State};
 use areas::ice::Ice;
 use areas::ranges::fits_under;
-use arrayvec::ArrayVec;
+use counted::Counted;
 use model::ranges::GROUP_COUNT;
 use model::{Group, Member, Section};
 use units::{Force, Length};
@@ -25,7 +26,7 @@ pub const PRESSURE: usize = 3;
 pub fn least() -> Section
     ensures { (tower.section_of result ≡ least_section) × ((t : Length) → t.0 ≤ 50 → fits_under t result ≡ true) }
 {
-    let mut groups = ArrayVec::new();
+    let mut groups = Counted::new();
     groups.push(Group {
         member: Member::Flat(Length(1)),
         length: Length(1),
@@ -55,11 +56,12 @@ fn group_number(group: Group) -> u32
     group.member.kind() + 2 * group.member.size().0 + 2048 * group.length.0
 }
 
-fn groups_in(numbers: &[u32]) -> ArrayVec<Group, 8>
+fn groups_in(numbers: &[u32]) -> Counted<Group, 8>
     requires { length numbers.now ≤ 8 }
-    ensures { result.items ≡ map group_in numbers.now }
+    ensures items { elements result ≡ map group_in numbers.now }
+    ensures few { result.count ≤ 8 }
 {
-    let mut groups = ArrayVec::new();
+    let mut groups = Counted::new();
     for number in numbers {
         groups.push(group_of(*number));
     }
@@ -69,7 +71,8 @@ fn groups_in(numbers: &[u32]) -> ArrayVec<Group, 8>
 // The section of its two slots, in its ranges or not.
 #[tactic(auto, using(crate::proofs::Lists::list_to_map))]
 fn section_in(fields: &Slot, numbers: &Slot) -> Section
-    ensures { tower.section_of result ≡ section_in fields.now numbers.now }
+    ensures section { tower.section_of result ≡ section_in fields.now numbers.now }
+    ensures few { result.groups.count ≤ 8 }
 {
     let [width, height, allowance, _, count, ..] = *fields;
     Section {
@@ -83,7 +86,8 @@ fn section_in(fields: &Slot, numbers: &Slot) -> Section
 // Section i as its slots have it, in its ranges or not.
 pub fn section_as(s: &State, i: usize) -> Section
     requires { i < 32 }
-    ensures { tower.section_of result ≡ section_as s.now i }
+    ensures section { tower.section_of result ≡ section_as s.now i }
+    ensures few { result.groups.count ≤ 8 }
 {
     let at = SECTIONS + 2 * i;
     section_in(&s[at], &s[at + 1])

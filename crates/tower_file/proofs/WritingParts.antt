@@ -7,6 +7,7 @@ use native.Mathlib.Omega.{arith}
 use lib.ListN.{length, length-append, length-map}
 use borrow.Author.Tests.{lt-ltb, le-ltb}
 use Rattle.std.specs.Prelude.{Ok, Err}
+use Rattle.counted.specs.Elements.{elements}
 use Rattle.model.specs.declared.Refusal.TheVariants.{OutputShort}
 use Rattle.model.specs.declared.Section as stored-section
 use Rattle.model.specs.declared.Tower as stored
@@ -27,13 +28,13 @@ stored_bytes s = section_bytes (section_of s)
 
 -- the file's parts, one after another
 module _ (t : stored.Tower) where
-  pub file-parts : (((bytes 1 (legs_number t.legs) ++ bytes 1 (length t.sections.items)) ++ joined stored_bytes t.sections.items) ++ bytes 1 (length t.items.items))
-      ++ joined item_bytes t.items.items
+  pub file-parts : (((bytes 1 (legs_number t.legs) ++ bytes 1 (length (elements t.sections))) ++ joined stored_bytes (elements t.sections)) ++ bytes 1 (length (elements t.items)))
+      ++ joined item_bytes (elements t.items)
       ≡ file_of (tower_of t)
   unfolding file_of
-  file-parts = rw (joined-map section_bytes section_of t.sections.items, length-map) (simp append_assoc)
+  file-parts = rw (joined-map section_bytes section_of (elements t.sections), length-map) (simp append_assoc)
 
-  pub parts_length : 3 + length (joined stored_bytes t.sections.items) + length (joined item_bytes t.items.items) ≡ length (file_of (tower_of t))
+  pub parts_length : 3 + length (joined stored_bytes (elements t.sections)) + length (joined item_bytes (elements t.items)) ≡ length (file_of (tower_of t))
   parts_length = omega (arith, simp (length-append, length-bytes) at (ap length file-parts))
 
 -- the answers of the writer of files

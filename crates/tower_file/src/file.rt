@@ -6,7 +6,7 @@ ghost use Rattle.file_fields.specs.Written.{Puts};
 ghost use Rattle.tower_file.specs.Stored.{ReadsFile};
 ghost use Rattle.tower_file.specs.Written.{WritesFile};
 
-use arrayvec::ArrayVec;
+use counted::Counted;
 use file_fields::fields::{read_ranged, write_field};
 use file_parts::items::{ITEM_BYTES, read_item_part};
 use file_parts::parts::{read_each, write_each};
@@ -21,7 +21,7 @@ pub fn read(file: &[u8]) -> Result<Tower, Refusal>
     let (legs, at) = read_ranged(file, 0, 1, LEG_COUNT, Refusal::Legs)?;
     let (count, at) = read_ranged(file, at, 1, SECTION_COUNT, Refusal::SectionCount)?;
     let count = count as usize;
-    let mut sections = ArrayVec::new();
+    let mut sections = Counted::new();
     let at = at + read_each(&file[at..], count, &mut sections)?;
     let (items, used) = read_item_part(&file[at..], count)?;
     if at + used != file.len() {

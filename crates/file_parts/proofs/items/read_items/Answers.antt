@@ -1,4 +1,5 @@
 use Rattle.std.proofs.Common.{◌≡◌, ◌+◌, ◌∙◌, [], ◌∷◌, length-append, refl, sym, arith, drop}
+use Rattle.counted.specs.Elements.{elements}
 use Rattle.model.specs.Reading.{got}
 use Rattle.model.specs.File.{read_item, read_items}
 use Rattle.file_fields.proofs.Answered.{onward, onward-no, passed_on}
@@ -12,7 +13,7 @@ pub returns-in_default : goal.returns-in_default
 unfolding read_items
 returns-in_default c =
     let l = c.loop in
-    let no = number-first c.args.sections l.earlier.items.items (drop l.at c.args.file.now)
+    let no = number-first c.args.sections (elements l.earlier.items) (drop l.at c.args.file.now)
     ∙ rw (field_barred 2 c.args.file.now l.at c.in_default.ensures) refl in
     record { says = no_more _ _ _ _ l.invariant.1 c.loop-test.true no }
 
@@ -20,7 +21,7 @@ pub returns-then-contains : goal.returns-then-contains
 unfolding read_items
 returns-then-contains c =
     let l = c.loop in
-    let no = number-first c.args.sections l.earlier.items.items (drop l.at c.args.file.now)
+    let no = number-first c.args.sections (elements l.earlier.items) (drop l.at c.args.file.now)
     ∙ rw (c.in-Ok.ensures.0.says.0, sym c.if-contains.ensures) refl in
     record { says = no_more _ _ _ _ l.invariant.1 c.loop-test.true no }
 
@@ -29,7 +30,7 @@ unfolding read_items
 returns-in_err-item c =
     let l = c.loop in
     let rest = read_item_rest c.args.sections c.in-Ok.number in
-    let no = number-first c.args.sections l.earlier.items.items (drop l.at c.args.file.now)
+    let no = number-first c.args.sections (elements l.earlier.items) (drop l.at c.args.file.now)
     ∙ rw (c.in-Ok.ensures.0.says.0, sym c.if-contains.ensures) (onward-no rest c.args.file.now c.in-Ok.next c.in_err-item.ensures) in
     passed_on _ _ _ _ c.from_residual.ensures.1 (no_more _ _ _ _ l.invariant.1 c.loop-test.true no)
 
@@ -38,10 +39,10 @@ loop-preserved c =
     let l = c.loop in
     let rest = read_item_rest c.args.sections c.in-Ok.number in
     let item = onward rest c.args.file.now c.in-Ok.next c.in-Ok.ensures.0.says.1 c.in_ok-item.ensures in
-    let read : read_item c.args.sections l.earlier.items.items (drop l.at c.args.file.now)
+    let read : read_item c.args.sections (elements l.earlier.items) (drop l.at c.args.file.now)
     ≡ got c.in_ok-item.item (drop (c.in-Ok.next + c.in_ok-item.used) c.args.file.now) =
     number-first _ _ _ ∙ rw (c.in-Ok.ensures.0.says.0, sym c.if-contains.ensures) item.0 in
-    let longer = length-append l.earlier.items.items (c.in_ok-item.item ∷ []) in
+    let longer = length-append (elements l.earlier.items) (c.in_ok-item.item ∷ []) in
     rw c.push.ensures (omega (arith, longer, l.invariant.0), one_more _ _ _ _ l.invariant.1 c.loop-test.true (read, item.1))
 
 pub returns : goal.returns

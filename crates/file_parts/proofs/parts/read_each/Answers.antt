@@ -1,5 +1,6 @@
 use Rattle.std.proofs.Common.{[], ◌∷◌, arith}
 use Rattle.std.proofs.lemmas.List.{map-append}
+use Rattle.counted.specs.Elements.{elements}
 use Rattle.file_fields.proofs.Answered.{onward, onward-no, passed_on}
 use Rattle.file_parts.proofs.SoFar.{one_more, no_more, all_read}
 use Rattle.file_parts.proofs.parts.read_each.Goals as goal
@@ -15,7 +16,7 @@ loop-preserved g c =
     let l = c.loop in
     let read = onward part.reading c.args.file.now l.at l.invariant.1.within c.in_ok-part.ensures in (
       omega (arith, c.push.ensures.len),
-      rw (c.push.ensures.items, map-append part.value_of l.parts.items (c.in_ok-part.part ∷ []))
+      rw (c.push.ensures.items, map-append part.value_of (elements l.parts) (c.in_ok-part.part ∷ []))
           (one_more _ _ _ _ l.invariant.1 c.loop-test.true read),
     )
 

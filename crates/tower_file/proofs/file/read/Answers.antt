@@ -22,13 +22,13 @@ returns-in_err-count c =
     (rw (items-last c.args.file.now, c.in_ok-legs.ensures.says.0, c.in_err-count.ensures.says) refl)
 
 pub read_each-requires : goal.read_each-requires
-read_each-requires c = rw c.new-sections.ensures (omega (arith, ranged-high 1 section_count 4 _ c.in_ok-count.ensures.says.0))
+read_each-requires c = rw c.new-sections.ensures.items (omega (arith, ranged-high 1 section_count 4 _ c.in_ok-count.ensures.says.0))
 
 pub returns-in_err-at : goal.returns-in_err-at
 unfolding read_sections
 returns-in_err-at c =
     let count = c.in_ok-count in
-    let no = each-barred section_of read_section count.count c.args.file.now count.at c.new-sections.ensures c.in_err-at.ensures in
+    let no = each-barred section_of read_section count.count c.args.file.now count.at c.new-sections.ensures.items c.in_err-at.ensures in
     turned_down _ _ c.from_residual-in_err-at.ensures.1
     (rw (items-last c.args.file.now, c.in_ok-legs.ensures.says.0, count.ensures.says.0, no) refl)
 
@@ -37,7 +37,7 @@ unfolding read_sections
 returns-in_err-items c =
     let s = c.args.file.now in
     let count = c.in_ok-count in
-    let sections = each-behind section_of read_section count.count s count.at c.new-sections.ensures count.ensures.says.1 _ c.in_ok-at.ensures in
+    let sections = each-behind section_of read_section count.count s count.at c.new-sections.ensures.items count.ensures.says.1 _ c.in_ok-at.ensures in
     let no = onward-no (read_item_part count.count) s (count.at + c.in_ok-at.field-0) c.in_err-items.ensures in
     turned_down _ _ c.from_residual-in_err-items.ensures.1
     (rw (items-last s, c.in_ok-legs.ensures.says.0, count.ensures.says.0, sections.0, no) refl)
@@ -62,11 +62,11 @@ module _ (s : List ℕ) (a : ℕ) (sections : List stored.Section) {R : Type 0} 
 pub returns-then-at-used : goal.returns-then-at-used
 returns-then-at-used c =
     let s = c.args.file.now in
-    let read = parts-read s _ _ c.in_ok-legs.ensures.says.0 c.in_ok-count.ensures.says c.new-sections.ensures c.in_ok-at.ensures c.in_ok-items.ensures in
+    let read = parts-read s _ _ c.in_ok-legs.ensures.says.0 c.in_ok-count.ensures.says c.new-sections.ensures.items c.in_ok-at.ensures c.in_ok-items.ensures in
     record { tower = rw (read.0, bytes-follow s _ read.1 c.if-at-used.true) refl }
 
 pub returns : goal.returns
 returns c =
     let s = c.args.file.now in
-    let read = parts-read s _ _ c.in_ok-legs.ensures.says.0 c.in_ok-count.ensures.says c.new-sections.ensures c.in_ok-at.ensures c.in_ok-items.ensures in
+    let read = parts-read s _ _ c.in_ok-legs.ensures.says.0 c.in_ok-count.ensures.says c.new-sections.ensures.items c.in_ok-at.ensures c.in_ok-items.ensures in
     record { tower = rw (read.0, nothing-follows s _ c.if-at-used.false, c.from-legs.ensures) refl }

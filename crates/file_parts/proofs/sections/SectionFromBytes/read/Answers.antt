@@ -9,18 +9,18 @@ pub returns-in_err-head : goal.returns-in_err-head
 returns-in_err-head c = passed_on _ _ _ _ c.from_residual.ensures.1 (rw (head_first c.args.file.now, c.in_err-head.ensures.says) refl)
 
 pub read_each-requires : goal.read_each-requires
-read_each-requires c = rw c.new-groups.ensures (omega (arith, (head-facts _ c.in_ok-head.ensures.says.0).count))
+read_each-requires c = rw c.new-groups.ensures.items (omega (arith, (head-facts _ c.in_ok-head.ensures.says.0).count))
 
 pub returns-in_err-used : goal.returns-in_err-used
 returns-in_err-used c =
     let head = c.in_ok-head in
-    let no = groups-barred head.head.count c.args.file.now head.at c.new-groups.ensures c.in_err-used.ensures in
+    let no = groups-barred head.head.count c.args.file.now head.at c.new-groups.ensures.items c.in_err-used.ensures in
     passed_on _ _ _ _ c.from_residual-in_err-used.ensures.1 (rw (head_first c.args.file.now, head.ensures.says.0, no) refl)
 
 pub invariant_of-solid : goal.invariant_of-solid
 invariant_of-solid c =
     let head = c.in_ok-head in
-    let groups = groups-behind head.head.count c.args.file.now head.at c.new-groups.ensures head.ensures.says.1 c.in_ok-used.ensures in
+    let groups = groups-behind head.head.count c.args.file.now head.at c.new-groups.ensures.items head.ensures.says.1 c.in_ok-used.ensures in
     let fit = groups-fit head.head.count _ groups.0 in
     record { few = c.as_slice-groups.ensures.fits; fit = rw c.as_slice-groups.ensures.value fit.0 }
 
@@ -32,7 +32,7 @@ gross_area-requires c =
 pub returns-then-lt : goal.returns-then-lt
 returns-then-lt c =
     let head = c.in_ok-head in
-    let groups = groups-behind head.head.count c.args.file.now head.at c.new-groups.ensures head.ensures.says.1 c.in_ok-used.ensures in
+    let groups = groups-behind head.head.count c.args.file.now head.at c.new-groups.ensures.items head.ensures.says.1 c.in_ok-used.ensures in
     let solid = rw (c.of_class.ensures, c.as_slice-groups.ensures.value) at c.solid-solid.ensures in
     let less : c.gross_area.result.0 < c.solid-solid.result.0 = grind (arith, nat_tests) in
     record { says = rw (head_first c.args.file.now, head.ensures.says.0, groups.0, too-solid c.gross_area.ensures.value solid less) refl }
@@ -40,7 +40,7 @@ returns-then-lt c =
 pub returns : goal.returns
 returns c =
     let head = c.in_ok-head in
-    let groups = groups-behind head.head.count c.args.file.now head.at c.new-groups.ensures head.ensures.says.1 c.in_ok-used.ensures in
+    let groups = groups-behind head.head.count c.args.file.now head.at c.new-groups.ensures.items head.ensures.says.1 c.in_ok-used.ensures in
     let solid = rw (c.of_class.ensures, c.as_slice-groups.ensures.value) at c.solid-solid.ensures in
     let most : c.solid-solid.result.0 ≤ c.gross_area.result.0 = grind (arith, nat_tests) in
     record {

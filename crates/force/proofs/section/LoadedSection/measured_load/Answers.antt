@@ -1,6 +1,7 @@
 use Rattle.std.proofs.Common.{◌≡◌, ap, sym, ◌∙◌, ◌+◌, arith, length}
 use Rattle.units.specs.declared.Force.{Force}
 use Rattle.exact.specs.Number.{greater}
+use Rattle.counted.specs.Elements.{elements}
 use Rattle.model.specs.declared.Areas.{Areas}
 use Rattle.areas.proofs.Facts.{no_group}
 use Rattle.areas.proofs.LesserPressures.{none-covered}
@@ -30,7 +31,7 @@ loop-i-preserved c =
 pub returns-after-loop-i : goal.returns-after-loop-i
 returns-after-loop-i c =
     let s = in_wind c.args.self.now in
-    let all : c.loop-i.i ≡ length s.section.groups.items = omega (arith, c.loop-i-test.false, c.loop-i.auto.i-end, ap length c.face-face.ensures) in
+    let all : c.loop-i.i ≡ length (elements s.section.groups) = omega (arith, c.loop-i-test.false, c.loop-i.auto.i-end, ap length c.face-face.ensures) in
     record { areas = c.requires; force = greatest-all s c.args.self.now.section.stands (rw all at c.loop-i.invariant) }
 
 -- without supercritical members no group has a lesser wind
@@ -38,7 +39,7 @@ pub returns-else-areas-ne0 : goal.returns-else-areas-ne0
 returns-else-areas-ne0 c =
     let s = in_wind c.args.self.now in
     let f = c.args.self.now.section.stands in
-    let gs = s.section.groups.items in
+    let gs = elements s.section.groups in
     let z = ap (λ (x : Areas). x.supercritical.0) (sym c.requires) ∙ c.if-areas-ne0.false in
     let n = none-covered s.ice s.pressure gs (section-known s f).groups z in
     let all : 0 + length gs ≡ length gs = omega arith in
