@@ -1,11 +1,13 @@
 -- The lesser winds of the groups in code.
-use Prim.Native.Nat.{ℕ, zero, suc, ◌+◌, ◌*◌, ◌/◌, ◌<◌}
+use Prim.Native.Nat.{ℕ, zero, suc, ◌+◌, ◌*◌, ◌/◌, ◌≤◌, ◌<◌}
 use mathlib.Core.Path.{◌≡◌, refl, sym, ◌∙◌}
 use mathlib.Core.Bool.{Bool, true, false, cond, not, ◌&&◌}
 use mathlib.Core.List.{List, [], ◌∷◌}
 use native.Mathlib.Omega.{arith}
+use native.Mathlib.Nat.{mul-pos, mul-le-mul}
 use lib.Dec.{eqb}
 use lib.ListN.{length, get_or, take}
+use lib.Seq.{get_or-take, length-take-le}
 use borrow.Author.Tests.{eq-eqb, ne_eqb}
 use Rattle.std.specs.Bool.{then_some}
 use Rattle.units.specs.declared.Length.{Length}
@@ -30,10 +32,20 @@ module _ (q : ℕ) (d : Length) (g : flow_limit < 2 * q * (d.0 * d.0)) where
   pub greatest-less : flow_limit / (2 * (d.0 * d.0)) < q
   greatest-less = less q greatest g
 
+  -- and above 0 where the diameter is at most 1 m
+  module _ (h : d.0 ≤ 1000) where
+    pub square-small : (0 < d.0 * d.0) × (d.0 * d.0 ≤ 1_000_000)
+    square-small =
+        let k : 0 < d.0 = positive flow_limit q d.0 g in
+        (mul-pos k k, mul-le-mul {n₂ = 1000} {m₂ = 1000} h h)
+
+    pub greatest-positive : 0 < flow_limit / (2 * (d.0 * d.0))
+    greatest-positive = greatest.none_above 1 (omega (arith, square-small.1))
+
 -- a round that turns supercritical between p and p + 1 has the lesser wind p under every higher pressure, and no other
 -- has
 module _ (t : Length) (p : ℕ) (d : Length) where
-  not-turned : is_supercritical t p d ≡ true → (q : ℕ) → p < q → false ≡ any_of (eqb p) (lesser_of t q (Round d))
+  pub not-turned : is_supercritical t p d ≡ true → (q : ℕ) → p < q → false ≡ any_of (eqb p) (lesser_of t q (Round d))
   unfolding lesser_of
   not-turned h q l = go (is_supercritical t q d) refl
     where
@@ -43,7 +55,7 @@ module _ (t : Length) (p : ℕ) (d : Length) where
           rw (ne_eqb p (flow_limit / (2 * (d.0 * d.0))) (λ z. omega (arith, g)))
       go false e = refl
 
-  turned : is_supercritical t p d ≡ false → (q : ℕ) → p < q → is_supercritical t (p + 1) d ≡ any_of (eqb p) (lesser_of t q (Round d))
+  pub turned : is_supercritical t p d ≡ false → (q : ℕ) → p < q → is_supercritical t (p + 1) d ≡ any_of (eqb p) (lesser_of t q (Round d))
   unfolding lesser_of
   turned h q l = go (is_supercritical t q d) (is_supercritical t (p + 1) d) refl refl
     where
@@ -58,7 +70,7 @@ module _ (t : Length) (p : ℕ) (d : Length) where
       go false false e f = refl
 
 -- a member that turns supercritical above p has the lesser wind p under every higher pressure, and no other has
-turns : (t : Length) (p q : ℕ) (m : Member) → p < q → turns_above t p m ≡ any_of (eqb p) (lesser_of t q m)
+pub turns : (t : Length) (p q : ℕ) (m : Member) → p < q → turns_above t p m ≡ any_of (eqb p) (lesser_of t q m)
 unfolding turns_above lesser_of
 turns t p q (Flat w) h = refl
 turns t p q (Round d) h = go (is_supercritical t p d) refl
@@ -67,7 +79,7 @@ turns t p q (Round d) h = go (is_supercritical t p d) refl
     go true e = not-turned t p d e q h
     go false e = turned t p d e q h
 
-any-turns : (t : Length) (p q : ℕ) (gs : List Group) → p < q → any_of (λ (g : Group). turns_above t p g.member) gs ≡ any_of (eqb p) (lesser_winds t q gs)
+pub any-turns : (t : Length) (p q : ℕ) (gs : List Group) → p < q → any_of (λ (g : Group). turns_above t p g.member) gs ≡ any_of (eqb p) (lesser_winds t q gs)
 unfolding lesser_winds joined
 any-turns t p q [] h = refl
 any-turns t p q (g ∷ gs) h =
@@ -89,7 +101,13 @@ pub wind_of : (t : Length) (q : ℕ) (gs : List Group) (i p : ℕ) → i < lengt
 wind_of t q gs i p h e s true n = needless (λ d. rw (get_or-any gs i d no_group h) e) (n refl)
 wind_of t q gs i p h e s false n = record { lesser = λ d. rw (get_or-any gs i d no_group h) e; positive = s.0; small = s.1 }
 
--- no group has a lesser wind where there is no supercritical area
-pub none-covered : (t : Length) (q : ℕ) (gs : List Group) → all_of group_fits gs ≡ true → (areas_of t q gs).supercritical.0 ≡ 0
+-- of the first n groups none has a lesser wind where there is no supercritical area
+pub none-covered : (t : Length) (q n : ℕ) (gs : List Group) → n ≤ length gs → all_of group_fits (take n gs) ≡ true
+    → (areas_of t q (take n gs)).supercritical.0 ≡ 0 → (i : ℕ) → i < n → Covered t q gs i
+none-covered t q n gs b h z i l =
+    none (λ d. let e : _ = none-lesser t q (take n gs) h z i d (omega (arith, length-take-le n gs b)) in rw get_or-take at e)
+
+-- nor has any of them all
+pub all-covered : (t : Length) (q : ℕ) (gs : List Group) → all_of group_fits gs ≡ true → (areas_of t q gs).supercritical.0 ≡ 0
     → (i : ℕ) → i < length gs → Covered t q gs i
-none-covered t q gs h z i l = none (λ d. none-lesser t q gs h z i d l)
+all-covered t q gs h z i l = none (λ d. none-lesser t q gs h z i d l)

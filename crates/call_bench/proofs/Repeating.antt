@@ -1,17 +1,18 @@
 -- Calls behind calls, rounds behind rounds, and a report behind a report.
-use Rattle.std.proofs.Common.{◌≡◌, ℕ, zero, suc, ◌+◌, ◌*◌, ◌%◌, ◌^◌, ◌≤◌, Bool, true, false, cond, eqb, ltb, List, [], ◌∷◌, ◌++◌, length, drop, sym, refl, ap, ◌∙◌, subst, add-one, arith, length-append, length-drop, ltb-false, ne_eqb}
+use Rattle.std.proofs.Common.{◌≡◌, ℕ, zero, suc, ◌+◌, ◌*◌, ◌%◌, ◌^◌, ◌≤◌, ◌<◌, Bool, true, false, cond, eqb, ltb, List, [], ◌∷◌, ◌++◌, length, drop, sym, refl, ap, ◌∙◌, subst, add-one, arith, length-append, length-drop, ltb-false, ne_eqb}
 use mathlib.Core.Option.{none, some}
 use native.Mathlib.Nat.{mod-add-mod, add-mod-mod}
 use lib.Seq.{drop-append_seam}
 use Rattle.std.proofs.lemmas.Bool.Decides.{nat_tests}
-use Rattle.std.specs.Prelude.{Result, ⊤}
+use Rattle.std.specs.Prelude.{Result, Err, ⊤}
 use Rattle.model.specs.declared.Refusal.{Refusal}
-use Rattle.model.specs.Answers.{Reply, answer_reply, answer_number}
+use Rattle.model.specs.Answers.{Reply, refusal_number, answer_reply, answer_number}
 use Rattle.model.specs.Tower.{Tower, Wind}
 use Rattle.model.specs.Report.{rows_of}
 use Rattle.model.specs.Machine.{State, no_tower, standing, filled, refuse_if, report_refusal, rows_in}
 use Rattle.model.specs.Calls.{Call, erect, wind, report, refusal_of, step, lent_after, run}
 use Rattle.model.proofs.Refused.{same-state}
+use Rattle.model.proofs.Says.{refusal-positive}
 use Rattle.model.proofs.Rows.{length-rows}
 use Rattle.slots.specs.Held.{Slots, is_standing, state_of, empty_slots}
 use Rattle.slots.specs.Promises.{Meets}
@@ -26,6 +27,12 @@ pub windy-known : (file : List ℕ) (w : Wind) {s t : Slots} {a b : Reply} {k l 
     → Meets (wind w) s t b l → state_of t ≡ windy file w
 unfolding windy
 windy-known file w q r = r.state ∙ ap (λ (m : State). step m (wind w)) (q.state ∙ ap (λ (m : State). step m (erect file)) fresh-none)
+
+-- a call that is turned down is not counted
+pub not-counted : {e : Refusal} (n : ℕ) (a : Result ⊤ Refusal) → n < 2 ^ 64 → a ≡ Err e → n ≡ (n + once (answer_number a)) % 2 ^ 64
+not-counted {e} n a h k =
+    let p : _ = refusal-positive e in
+    rw (k, ne_eqb (refusal_number e) 0 (λ (z : refusal_number e ≡ 0). omega arith)) (omega arith)
 
 -- one list behind another
 run-append : (m : State) (cs ds : List Call) → run m (cs ++ ds) ≡ run (run m cs) ds
@@ -65,7 +72,7 @@ module _ (m : State) where
   counted-more : (cs ds : List Call) {n k r : ℕ} → Counted m cs n → Counted (run m cs) ds k → r ≡ (n + k) % 2 ^ 64 → Counted m (cs ++ ds) r
   counted-more cs ds p q e = rw (e, p, q, accepted-append, mod-add-mod, add-mod-mod)
 
-  after_more : (cs ds : List Call) {s t : Slots} {n k r : ℕ} → After m cs s n → After (state_of s) ds t k → r ≡ (n + k) % 2 ^ 64 → After m (cs ++ ds) t r
+  pub after_more : (cs ds : List Call) {s t : Slots} {n k r : ℕ} → After m cs s n → After (state_of s) ds t k → r ≡ (n + k) % 2 ^ 64 → After m (cs ++ ds) t r
   after_more cs ds {k = k} p q e =
       record {
         state = q.state ∙ ap (λ (x : State). run x ds) p.state ∙ sym (run-append m cs ds);
@@ -154,3 +161,6 @@ module _ (m : State) (before : List ℕ) where
         rows =
             rw (ne_eqb (i + 1) 0 (λ (z : i + 1 ≡ 0). omega arith)) (h.lent ∙ ap (λ (x : State). lent_after x (report lent)) known ∙ so.1);
       }
+
+  pub reported-length : (i : ℕ) {after : List ℕ} {r : ℕ} → Reported m i before after r → length after ≡ length before
+  reported-length i {after} p = (lent-in i after p.rows).0

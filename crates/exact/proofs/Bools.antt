@@ -1,6 +1,7 @@
 -- Tests joined by && and ||, taken apart and put together.
 use mathlib.Core.Path.{◌≡◌, refl, sym, ◌∙◌}
-use mathlib.Core.Bool.{Bool, true, false, ◌&&◌, ◌||◌, true≢false}
+use mathlib.Core.Bool.{Bool, true, false, not, ◌&&◌, ◌||◌, true≢false}
+use borrow.Author.Tests.{not-true, not-false}
 
 pub clash : {b : Bool} → b ≡ true → b ≡ false → ⊥
 clash p q = true≢false (sym p ∙ q)
@@ -22,3 +23,10 @@ or_split false b h = (refl, h)
 
 pub or-join : {a b : Bool} → a ≡ false → b ≡ false → (a || b) ≡ false
 or-join h g = rw (h, g)
+
+-- what a test of a function's answer tells
+pub passed : {r x : Bool} → r ≡ x → not r ≡ false → x ≡ true
+passed {r} e h = sym e ∙ not-false r h
+
+pub failed : {r x : Bool} → r ≡ x → not r ≡ true → x ≡ false
+failed {r} e h = sym e ∙ not-true r h

@@ -18,6 +18,9 @@ use Rattle.exact.proofs.Lists.{every-join, every-left, every-right, every-or-som
 pub sound-only : {v : Rooted} → Defined v → Sound (only v)
 sound-only d = record { each = also d none }
 
+pub sound-join : {e f : Exact} → Sound e → Sound f → Sound (e ++ f)
+sound-join s t = record { each = every-join s.each t.each }
+
 -- comparisons with one number, and with the greatest of two
 pub at-most-only : {x : Fraction} {v : Rooted} → x ≼√ v → AtMost x (only v)
 at-most-only h = record { some = this h }

@@ -5,7 +5,7 @@ use mathlib.Core.Bool.{Bool, true, false, cond}
 use mathlib.Core.List.{List, [], ◌++◌}
 use mathlib.Core.Option.{none}
 use native.Mathlib.Omega.{arith}
-use lib.Dec.{leb}
+use lib.Dec.{leb, ltb}
 use lib.ListN.{length, get_or, drop, length-append, length-drop}
 use lib.Seq.{drop-append_seam}
 use borrow.Author.Tests.{lt-ltb, le-ltb, leb-true, leb-false, le-leb, lt-leb}
@@ -111,3 +111,14 @@ unfolding is_timed answer_of bytes_of
 barred {file} {e = e} p =
     let k : read_file file ≡ refused (refusal_number e) = p.tower in
     record { answer = rw k; bytes = rw k }
+
+pub no-rounds : {file lent : List ℕ} → Timed file 0 lent lent (2 ^ 64 - 1)
+unfolding is_timed answer_of bytes_of
+no-rounds = record { answer = refl; bytes = refl }
+
+pub some-rounds : {file before after : List ℕ} {n : ℕ} (rounds : ℕ) → (rounds ≡ 0 → ⊥) → Timed file 1 before after n
+    → Timed file rounds before after n
+unfolding is_timed answer_of bytes_of
+some-rounds rounds h p =
+    let k : ltb 0 rounds ≡ true = lt-ltb 0 rounds (omega arith) in
+    record { answer = rw k p.answer; bytes = rw k p.bytes }

@@ -33,7 +33,11 @@ rest s i = take (length s - i) (drop i s)
 pub rest-is : (s : List ℕ) (i : ℕ) → rest s i ≡ drop i s
 rest-is s i = take_all (length s - i) (drop i s) (omega (arith, length-drop i s))
 
--- a part that is read from there: its next place counts from there
+-- a part that is read from there: it is refused as the part is
+pub onward-refused : {A : Type 0} (f : List ℕ → Parsed A) (s : List ℕ) (i : ℕ) {n : ℕ} → f (rest s i) ≡ refused n → f (drop i s) ≡ refused n
+onward-refused f s i h = ap f (sym (rest-is s i)) ∙ h
+
+-- its next place counts from there
 module _ {A : Type 0} (f : List ℕ → Parsed A) (s : List ℕ) (i : ℕ) {R : Type 0} {value : R → A} {next : R → ℕ} where
   pub onward : i ≤ length s → {r : R} → ReadsAs value next (rest s i) (f (rest s i)) (Ok r)
       → (f (drop i s) ≡ got (value r) (drop (i + next r) s)) × (i + next r ≤ length s)
@@ -45,7 +49,7 @@ module _ {A : Type 0} (f : List ℕ → Parsed A) (s : List ℕ) (i : ℕ) {R : 
       )
 
   pub onward-no : {e : Refusal} → ReadsAs value next (rest s i) (f (rest s i)) (Err e) → f (drop i s) ≡ refused (refusal_number e)
-  onward-no h = ap f (sym (rest-is s i)) ∙ h.says
+  onward-no h = onward-refused f s i h.says
 
 -- a refusal that is handed on by `?`
 pub passed_on : {A R : Type 0} (value : R → A) (next : R → ℕ) {s : List ℕ} {p : Parsed A} (e : Refusal) (r : Result R Refusal)

@@ -106,6 +106,9 @@ module _ {A : Type 0} (f : A → List ℕ) where
       → Puts (f x) (mid_of n (length o - n) o) new k → Puts (joined f (take (i + 1) l)) d (put_mid n (length o - n) o new) (n + k)
   puts-next l i x h e p q = rw (take_more l i x h, ← e, joined-more) (puts-more p q)
 
+  pub length-next : (l : List A) (i : ℕ) (z : A) → i < length l → length (joined f (take (i + 1) l)) ≡ length (joined f (take i l)) + length (f (get_or l i z))
+  length-next l i z h = rw (take_more l i z h, joined-more) (length-append (joined f (take i l)) (f (get_or l i z)))
+
   joined-room : (l : List A) (i : ℕ) (z : A) → i < length l → length (joined f (take i l)) + length (f (get_or l i z)) ≤ length (joined f l)
   unfolding joined
   joined-room [] i z h = absurd (omega arith)
@@ -120,3 +123,7 @@ module _ {A : Type 0} (f : A → List ℕ) where
       let j : length (joined f (take i l)) + length (f x) ≤ length (joined f l) = rw (← e) at (joined-room l i x h) in
       let same = puts-long p (omega arith) in
       record { fits = omega arith; same = same; rest = omega (arith, rest-long o at) }
+
+-- a count that is beyond the list
+pub all-taken : {A : Type 0} (l : List A) (n : ℕ) {m : ℕ} → length l ≡ m → m < n → m ≡ length (take n l)
+all-taken l n e h = sym e ∙ ap length (sym (take_all n l (omega arith)))

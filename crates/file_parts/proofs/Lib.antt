@@ -1,4 +1,5 @@
 pub mod Each
 pub mod Lengths
+pub mod Marks
 pub mod Order
 pub mod SoFar

@@ -7,8 +7,9 @@ use mathlib.Core.Logic.{⊎_elim}
 use native.Mathlib.Numerals.{add-one}
 use native.Mathlib.Omega.{arith}
 use lib.ListN.{length, get_or, set, take, drop, length-append, take-append-drop}
-use lib.Seq.{take-suc}
-pub use Rattle.std.proofs.lemmas.List.Folds.{list_all-append as all-of-append, list_any-append as any_append, list_all_more as all_more}
+use lib.Seq.{take-suc, get_or-take, length-take-le}
+pub use Rattle.std.proofs.lemmas.List.Folds.{list_all-append as all-of-append, list_any-append as any_append, list_all_more as all_more, list_any_more as any-more}
+use Rattle.std.proofs.lemmas.List.Folds.{list_any_at, list_all_at}
 pub use Rattle.std.proofs.lemmas.List.Elements.{filter-append as kept_append}
 use Rattle.model.specs.Lists.{any_of, all_of, kept, joined, sum_by, sum_to, list_to}
 use Rattle.exact.specs.Number.{Every, none, also, Some, this}
@@ -159,6 +160,13 @@ module _ {A : Type 0} (p : A → Bool) where
   all_set (x ∷ xs) (suc i) a h q =
       let k : _ = and_split (p x) (all_of p xs) h in
       and-join k.0 (all_set xs i a k.1 q)
+
+  -- one that holds of one of the first n holds of some of them; one that fails of one fails of them together
+  pub any-holds : (l : List A) (n i : ℕ) (d : A) → i < n → n ≤ length l → p (get_or l i d) ≡ true → any_of p (take n l) ≡ true
+  any-holds l n i d h g f = list_any_at p (take n l) i d (omega (arith, length-take-le n l g)) (rw get_or-take f)
+
+  pub all-fails : (l : List A) (n i : ℕ) (d : A) → i < n → n ≤ length l → p (get_or l i d) ≡ false → all_of p (take n l) ≡ false
+  all-fails l n i d h g f = list_all_at p (take n l) i d (omega (arith, length-take-le n l g)) (rw get_or-take f)
 
 -- a test that holds of all, from one that says more
 pub all_weaker : {A : Type 0} (p q : A → Bool) → ((x : A) → p x ≡ true → q x ≡ true) → (l : List A) → all_of p l ≡ true → all_of q l ≡ true

@@ -33,9 +33,12 @@ module _ (m : State) (c : Call) where
   pub refused-lent : (refusal_of m c ≡ 0 → ⊥) → lent_after m c ≡ lent_before c
   refused-lent h = filled-refused (refusal_of m c) (meaning m c).given (lent_before c) h
 
-  -- a call whose meaning changes no state, or gives nothing
+  -- a call whose meaning changes no state, or answers no value, or gives nothing
   pub same-state : (meaning m c).next ≡ m → step m c ≡ m
   same-state e = rw e (either (eqb (refusal_of m c) 0) m)
+
+  pub no-values : (meaning m c).values ≡ [] → (reply_of m c).values ≡ []
+  no-values e = rw e (either (eqb (refusal_of m c) 0) [])
 
   pub same-lent : (meaning m c).given ≡ [] → lent_after m c ≡ lent_before c
   unfolding filled

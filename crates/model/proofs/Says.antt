@@ -12,14 +12,14 @@ use borrow.Author.Tests.{eqb-false, ltb-true, lt-ltb, ne_eqb, not-true}
 use Rattle.std.specs.Prelude.{Some, None, Result, Ok, Err, ⊤}
 use Rattle.model.specs.declared.Refusal.{Refusal}
 use Rattle.model.specs.declared.Refusal.TheVariants as refusal
-use Rattle.model.specs.Answers.{Reply, accepts, refuses, refusal_number, highest_refusal, answer_number, check_reply, write_reply}
+use Rattle.model.specs.Answers.{Reply, accepts, refuses, refusal_number, highest_refusal, answer_reply, answer_number, check_reply, write_reply}
 use Rattle.model.specs.Tower.{Tower, Wind}
 use Rattle.model.specs.Report.{section_at, shear_at, exceeds, IsOver, TopmostOver}
 use Rattle.model.specs.Machine.{State, standing, check_refusal, write_refusal, file_in}
 use Rattle.model.specs.Calls as call
 use Rattle.model.specs.Calls.{Call, meaning, refusal_of, reply_of}
 use Rattle.exact.proofs.Bools.{clash, and_split}
-use Rattle.model.proofs.Refused.{refused-values}
+use Rattle.model.proofs.Refused.{refused-values, no-values}
 use Rattle.model.proofs.Topmost.{topmost-is, topmost-none, is-topmost, none-topmost}
 
 -- a section is over exactly if it is a section, states an allowance, and its reported shear is above that
@@ -118,7 +118,7 @@ pub answer-highest : (a : Result ⊤ Refusal) → answer_number a ≤ highest_re
 answer-highest (Ok _) = lit≤ tt
 answer-highest (Err r) = refusal-highest r
 
--- the reply to a call: of one that is accepted, and of one that is turned down
+-- the reply to a call: of one that is accepted, of one that is turned down, of one that answers a number alone
 same-reply : {n k : ℕ} {v u : List ℕ} → n ≡ k → v ≡ u → ◌≡◌ {A = Reply} (record { number = n; values = v }) (record { number = k; values = u })
 same-reply e f = rw (e, f)
 
@@ -128,6 +128,10 @@ module _ (m : State) (c : Call) where
 
   pub refused-reply : (r : Refusal) → refusal_number r ≡ refusal_of m c → reply_of m c ≡ refuses r
   refused-reply r e = same-reply (sym e) (refused-values m c (λ (z : refusal_of m c ≡ 0). omega (arith, refusal-positive r)))
+
+  pub number-reply : (a : Result ⊤ Refusal) → (meaning m c).values ≡ [] → answer_number a ≡ refusal_of m c → reply_of m c ≡ answer_reply a
+  number-reply (Ok _) v e = same-reply (sym e) (no-values m c v)
+  number-reply (Err r) v e = same-reply (sym e) (no-values m c v)
 
 -- the section that check names is the topmost over; it says that none is over exactly if none is
 module _ {t : Tower} {w : Wind} where

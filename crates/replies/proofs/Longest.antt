@@ -1,5 +1,5 @@
 -- The text of a message has at most 8192 bytes.
-use Rattle.std.proofs.Common.{ℕ, zero, suc, ◌+◌, ◌*◌, ◌/◌, ◌^◌, ◌≤◌, ◌<◌, List, [], ◌∷◌, length, get_or, take, drop, Some, None, Result, Ok, Err, arith, lit≤, length-append, get_or-drop}
+use Rattle.std.proofs.Common.{◌≡◌, ℕ, zero, suc, ◌+◌, ◌*◌, ◌/◌, ◌^◌, ◌≤◌, ◌<◌, List, [], ◌∷◌, length, get_or, take, drop, Some, None, Result, Ok, Err, Bor, arith, lit<, lit≤, length-append, get_or-drop}
 use Rattle.std.specs.Prelude.{decimal}
 use Rattle.std.proofs.lemmas.Fmt.{length-decimal-le}
 use Rattle.model.specs.Answers.{refusal_number}
@@ -27,6 +27,12 @@ Moderate (Ok (Over None)) = Unit {0}
 Moderate (Ok (File file)) = length file.now ≤ 3000
 Moderate (Ok Help) = Unit {0}
 Moderate (Err e) = Unit {0}
+
+-- the largest answers of a call: 32 rows, the last of 32 sections, and the longest file
+pub largest-moderate : (rows : Bor (List ℕ)) → ((i : ℕ) → get_or rows.now i 0 < 2 ^ 64) → length rows.now ≡ 192
+    → (file : Bor (List ℕ)) → length file.now ≡ 3000
+    → Moderate (Ok (Rows rows)) × Moderate (Ok (Over (Some 31))) × Moderate (Ok (File file))
+largest-moderate rows words r file f = (record { words = words; most = omega (arith, r) }, lit< tt, omega (arith, f))
 
 word-short : (n : ℕ) → n < 2 ^ 64 → length (decimal n) ≤ 20
 word-short n h = length-decimal-le 20 n (omega arith) (omega arith) h

@@ -1,7 +1,7 @@
 -- A row that is put number by number, and rows one after the other; a row reads back.
-use Rattle.std.proofs.Common.{◌≡◌, ℕ, suc, ◌+◌, ◌-◌, ◌/◌, ◌^◌, ◌<◌, List, [], ◌∷◌, ◌++◌, length, get_or, take, refl, append_assoc, append-nil, arith, length-append}
+use Rattle.std.proofs.Common.{◌≡◌, ℕ, zero, suc, ◌+◌, ◌-◌, ◌*◌, ◌/◌, ◌^◌, ◌<◌, List, [], ◌∷◌, ◌++◌, length, get_or, take, drop, refl, append_assoc, append-nil, add-one, arith, length-append}
 use Rattle.std.specs.Prelude.{decimal}
-use Rattle.std.proofs.lemmas.List.{take_more, take_at, drop_at}
+use Rattle.std.proofs.lemmas.List.{take_more, take_at, drop_at, drop-drop}
 use Rattle.lines.specs.declared.text.Text.{Text}
 use Rattle.lines.specs.Text.{spaced}
 use Rattle.lines.specs.Appends.{Appends}
@@ -31,16 +31,28 @@ row_of [] n = refl
 row_of (m ∷ []) n = rw append_assoc
 row_of (m ∷ (k ∷ ns)) n = rw (row_of (k ∷ ns) n) (simp append_assoc)
 
+-- one row more
+rows-suc : (i : ℕ) (rows : List ℕ) → rows_text (suc i) rows ≡ rows_text i rows ++ row_text (take 6 (drop (6 * i) rows))
+unfolding rows_text
+rows-suc zero rows = rw append-nil
+rows-suc (suc i) rows =
+    let e : 6 * suc i ≡ 6 + 6 * i = omega arith in
+    rw (rows-suc i (drop 6 rows), drop-drop, e, append_assoc)
+
+pub rows_more : (rows : List ℕ) {before after last : Text} (i : ℕ) → Appends (rows_text i rows) before after
+    → Appends (row_text (take 6 (drop (6 * i) rows))) after last → Appends (rows_text (i + 1) rows) before last
+rows_more rows i a b = rw (add-one i, rows-suc) (appends_both a b)
+
 -- rows are put, and `rest` is left
 pub record RowsPut (rows rest : List ℕ) (old new : Text) : Type 0 where
   pub done : List ℕ
   pub put : Appends done old new
   pub left : rows_text (length rows / 6) rows ≡ done ++ rows_text (length rest / 6) rest
 
-rows_more : (row rest : List ℕ) → length row ≡ 6
+rows_and : (row rest : List ℕ) → length row ≡ 6
     → rows_text (length (row ++ rest) / 6) (row ++ rest) ≡ row_text row ++ rows_text (length rest / 6) rest
 unfolding rows_text
-rows_more row rest six =
+rows_and row rest six =
     let n : length (row ++ rest) / 6 ≡ suc (length rest / 6) = omega (arith, length-append row rest) in
     rw (n, take_at row rest 6 six, drop_at row rest 6 six)
 
@@ -50,7 +62,7 @@ row_put row {rest} p six a =
     record {
       done = p.done ++ row_text row;
       put = appends_both p.put a;
-      left = rw (p.left, rows_more row rest six, append_assoc);
+      left = rw (p.left, rows_and row rest six, append_assoc);
     }
 
 pub all_rows : {rows rest : List ℕ} {old new : Text} → RowsPut rows rest old new → length rest < 6 → Appends (rows_text (length rows / 6) rows) old new

@@ -7,6 +7,7 @@ use Rattle.model.specs.Force.{item_sum, largest_items}
 use Rattle.model.specs.Report as report
 use Rattle.model.specs.Report.{height_at, areas_at, force_at}
 use Rattle.areas.specs.Fits.{fits_under}
+use Rattle.areas.specs.Sums.{ItemSums}
 use Rattle.force.specs.declared.Load.{Load}
 use Rattle.force.specs.Loaded.{SectionInWind, Loaded}
 use Rattle.force.proofs.Loads.{section-known}
@@ -74,3 +75,15 @@ module _ {l : Slots} {c : LoadCase} (k : CaseOf l c) (i : ℕ) (h : i < count_in
           tall = rw e.1 (section-known s stands).height.high;
           allowance = e.2 ∙ ap (λ (s : Section). s.allowance) same;
         }
+
+-- what is known before the loop over the sections
+pub few : (l : Slots) {count : ℕ} → count ≡ count_in l → count ≤ 32
+few l e = omega (arith, e, count-few l)
+
+-- what `load` asks of a section
+pub case-asked : {l : Slots} {c : LoadCase} {count : ℕ} {sums : List ℕ} → CaseOf l c → count ≡ count_in l → ItemSums c.ice.thickness (items_in l) sums
+    → (i : ℕ) → i < count
+    → (CaseOf l c × (i < count_in l)) × ((get_or sums i 0 ≡ item_sum c.ice.thickness i (items_in l)) × (get_or sums i 0 ≤ largest_items))
+case-asked {l} k e summed i h =
+    let b : i < 32 = omega (arith, few l e) in
+    ((k, omega (arith, e)), (summed.sum i b, summed.small i b))

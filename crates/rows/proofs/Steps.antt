@@ -4,7 +4,7 @@ use mathlib.Core.Path.{◌≡◌, refl, ap, sym, ◌∙◌}
 use mathlib.Core.Bool.{true, false}
 use mathlib.Core.List.{List, [], ◌∷◌, ◌++◌, append_assoc}
 use native.Mathlib.Omega.{arith}
-use lib.ListN.{length, drop}
+use lib.ListN.{length, take, drop, set, length-append, length-drop, length-take}
 use lib.Seq.{take_at, drop_at, drop-drop}
 use borrow.Rule.Slice.PartMut.{put_mid, Post-is}
 use Rattle.units.specs.declared.Force.{Force}
@@ -18,6 +18,21 @@ use Rattle.model.proofs.Says.{none_more}
 use Rattle.rows.specs.declared.feet.Foot.{Foot}
 use Rattle.rows.specs.declared.loads.SectionLoad.{SectionLoad}
 use Rattle.rows.specs.Loaded.{LoadAt, NextFoot, row_of}
+
+-- six stores into a slice of six
+pub six : (l : List ℕ) (a b c d e f : ℕ) → length l ≡ 6 → set (set (set (set (set (set l 0 a) 1 b) 2 c) 3 d) 4 e) 5 f ≡ a ∷ b ∷ c ∷ d ∷ e ∷ f ∷ []
+six [] a b c d e f h = absurd (omega arith)
+six (u ∷ []) a b c d e f h = absurd (omega arith)
+six (u ∷ v ∷ []) a b c d e f h = absurd (omega arith)
+six (u ∷ v ∷ w ∷ []) a b c d e f h = absurd (omega arith)
+six (u ∷ v ∷ w ∷ x ∷ []) a b c d e f h = absurd (omega arith)
+six (u ∷ v ∷ w ∷ x ∷ y ∷ []) a b c d e f h = absurd (omega arith)
+six (u ∷ v ∷ w ∷ x ∷ y ∷ z ∷ []) a b c d e f h = refl
+six (u ∷ v ∷ w ∷ x ∷ y ∷ z ∷ k ∷ l) a b c d e f h = absurd (omega arith)
+
+-- the six from a on
+pub part-six : (a : ℕ) (l : List ℕ) → a + 6 ≤ length l → length (take (a + 6 - a) (drop a l)) ≡ 6
+part-six a l h = rw (length-take, length-drop) (omega arith)
 
 module _ (t : Tower) (w : Wind) where
   -- after n sections: the foot of the last, and their rows at the start of the lent slice
@@ -64,6 +79,11 @@ module _ (t : Tower) (w : Wind) where
   shear-next i p q = omega (arith, shear-more (force_at t w) i, ap (λ (x : Force). x.0) q)
 
 module _ {t : Tower} {w : Wind} {i : ℕ} where
+  -- the slice keeps its length
+  pub written-long : {lent out : List ℕ} {foot : Foot} → Written t w lent i out foot → 6 * i ≤ length lent → length out ≡ length lent
+  written-long {lent} s h =
+      ap length s.rows ∙ omega (arith, length-append (rows_to t w i) (drop (6 * i) lent), length-rows t w i, length-drop (6 * i) lent)
+
   -- section i, below the rows so far
   module _ {lent out : List ℕ} {above foot : Foot} {own : SectionLoad} (s : Written t w lent i out above) (a : LoadAt t w i own)
       (n : NextFoot above own.load.force own.height foot) where

@@ -1,5 +1,5 @@
 -- Groups, sections and items in slots, and back.
-use Rattle.std.proofs.Common.{◌≡◌, ℕ, ◌%◌, ◌/◌, ◌+◌, ◌*◌, ◌≤◌, ◌<◌, Bool, true, false, List, map, length, get_or, set, refl, ap, sym, ◌∙◌, arith}
+use Rattle.std.proofs.Common.{◌≡◌, ℕ, zero, suc, ◌%◌, ◌/◌, ◌+◌, ◌*◌, ◌≤◌, ◌<◌, Bool, true, false, List, map, length, get_or, set, refl, ap, sym, ◌∙◌, arith}
 use Rattle.std.proofs.lemmas.List.{length-map, length-set, get_or-map, get_or_append_left, get_or-set_same, get_or-set_other, take_all}
 use native.Mathlib.Nat.{mod-eq_of_lt, add-mul-mod_self_left, div-eq_of_lt-le}
 use borrow.Author.Tests.{le-leb}
@@ -36,6 +36,11 @@ use Rattle.slots.specs.Held.{
   PutSection,
 }
 use Rattle.slots.proofs.Lists.{list-take}
+
+-- the member of a number
+pub member-round : (k : ℕ) (w : Length) → (k ≡ 0 → ⊥) → member_of k w ≡ Round w
+member-round zero w h = absurd (h refl)
+member-round (suc k) w h = refl
 
 -- the three parts of a group's number
 module _ (k w n : ℕ) (hk : k < 2) (hw : w < 1024) where

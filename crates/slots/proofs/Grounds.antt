@@ -7,20 +7,20 @@ use mathlib.Core.List.{List, [], ◌∷◌, ◌++◌, map, map-append}
 use mathlib.Core.Option.{none, some}
 use native.Mathlib.Numerals.{add-one}
 use native.Mathlib.Omega.{arith}
-use lib.Dec.{eqb}
+use lib.Dec.{eqb, leb}
 use lib.ListN.{length, take, drop, set, length-map, length-drop}
 use lib.Seq.{take-suc-set, drop-set-add, get_or-take, get_or-drop, length-take-le, ext_get_or}
 use Rattle.units.specs.declared.Length.{Length}
 use Rattle.model.specs.Lists.{list_to}
-use Rattle.model.specs.Ranges.{within, ice_classes, structure_factor}
-use Rattle.model.specs.Areas.{thickness}
+use Rattle.model.specs.Ranges.{within, ice_classes, structure_factor, pressures}
+use Rattle.model.specs.Areas.{thickness, gross, solid_of}
 use Rattle.model.specs.File.{legs_of}
 use Rattle.model.specs.Valid.{section_fits}
 use Rattle.model.specs.Machine.{no_tower, standing, direction_fits}
 use Rattle.model.proofs.Lists.{length-list_to}
 use Rattle.model.proofs.Sections.{in-range}
 use Rattle.exact.proofs.Bools.{and_split}
-use Rattle.slots.specs.Held.{Slots, slot, cell, is_standing, count_in, held_in, item_of, items_to, items_in, section_in, stands_under, section_of, least_section, section_at, pressure_at, ground_of, is_windy, ice_on, section_on, pressure_on, tower_in, wind_in, state_of}
+use Rattle.slots.specs.Held.{Slots, slot, cell, is_standing, count_in, held_in, item_of, items_to, items_in, section_in, stands_under, section_of, least_section, section_at, pressure_of, pressure_at, ground_of, is_windy, ice_on, section_on, pressure_on, tower_in, wind_in, state_of}
 use Rattle.slots.proofs.Lists.{list_same}
 use Rattle.slots.proofs.Codec.{least-stands}
 
@@ -89,7 +89,7 @@ module _ (l : Slots) where
       by-case true e = rw (ice-windy e) (omega (arith, (windy-facts e).ice))
       by-case false e = rw (ice-calm e) (omega arith)
 
--- every section stands under the ice that it is read for
+-- every section stands under the ice that it is read for, and no pressure is above the range
 module _ (t : Length) (thin : t.0 ≤ 50) (a b : List ℕ) where
   stands : stands_under t (section_of t a b) ≡ true
   unfolding section_of
@@ -102,6 +102,17 @@ module _ (t : Length) (thin : t.0 ≤ 50) (a b : List ℕ) where
 module _ (l : Slots) (t : Length) (thin : t.0 ≤ 50) (i : ℕ) where
   pub section-fits : section_fits (section_at l t i) ≡ true
   section-fits = (and_split (section_fits (section_at l t i)) _ (stands t thin _ _)).0
+
+  pub section-solid : leb (solid_of t (section_at l t i).groups).0 (gross (section_at l t i)).0 ≡ true
+  section-solid = (and_split (section_fits (section_at l t i)) _ (stands t thin _ _)).1
+
+pub pressure-small : (l : Slots) (i : ℕ) → pressure_at l i ≤ 5000
+unfolding pressure_of
+pressure-small l i = by-case (within pressures (cell l (1 + 2 * i) 3)) refl
+  where
+    by-case : (b : Bool) → within pressures (cell l (1 + 2 * i) 3) ≡ b → cond b (cell l (1 + 2 * i) 3) 0 ≤ 5000
+    by-case true e = (in-range pressures (cell l (1 + 2 * i) 3) e).high
+    by-case false e = omega arith
 
 -- the sections and pressures of the ground are those of the slots
 section-slot : (l : Slots) (j : ℕ) → j < 64 → slot (take 64 (drop 1 l)) j ≡ slot l (1 + j)

@@ -4,13 +4,14 @@ use Rattle.std.proofs.lemmas.Grind.{common_steps}
 use Rattle.std.proofs.lemmas.List.{length-map, length-set, length-drop, get_or-map, get_or-set_other, drop-set-add, take_more, take_more_set}
 use mathlib.Core.List.{map-append}
 use borrow.Author.Count.{below_more}
+use Rattle.units.specs.declared.Length.{Length}
 use Rattle.model.specs.declared.Item.{Item}
 use Rattle.model.specs.declared.Section as stored
 use Rattle.model.specs.Lists.{all_of}
 use Rattle.model.specs.Tower.{Section, section_of}
 use Rattle.model.specs.Valid.{section_fits}
 use Rattle.model.proofs.Lists.{all-at}
-use Rattle.slots.specs.Held.{Slots, cell, item_of, least_section, section_as, PutSection, PutSections}
+use Rattle.slots.specs.Held.{Slots, cell, item_of, least_section, section_as, section_at, PutSection, PutSections}
 use Rattle.tower_calls.specs.Placed.{section_in, PutItems}
 
 -- sections and their pressures
@@ -39,6 +40,10 @@ module _ (f : ℕ → Section) (p : ℕ → ℕ) where
         above = n.others 0 (λ z. omega arith) (λ z. omega arith) ∙ m.above;
         below = λ j h. n.others j (λ z. omega arith) (λ z. omega arith) ∙ m.below j (omega arith);
       }
+
+  -- a section that is not put yet is as it was
+  pub section-yet : (t : Length) (i : ℕ) {before mid : Slots} → PutSections f p i before mid → section_at mid t i ≡ section_at before t i
+  section-yet t i m = rw (m.below (1 + 2 * i) (omega arith), m.below (1 + 2 * i + 1) (omega arith))
 
 -- the section that is read at a place
 module _ (l : List stored.Section) (i : ℕ) (x : stored.Section) (h : i < length l) (is : x ≡ get_or l i x) where

@@ -4,7 +4,7 @@ use Rattle.exact.specs.Number.{greater}
 use Rattle.counted.specs.Elements.{elements}
 use Rattle.model.specs.declared.Areas.{Areas}
 use Rattle.areas.proofs.Facts.{no_group}
-use Rattle.areas.proofs.LesserPressures.{none-covered}
+use Rattle.areas.proofs.LesserPressures.{all-covered}
 use Rattle.force.specs.Loaded.{in_wind}
 use Rattle.force.proofs.Loads.{section-known}
 use Rattle.force.proofs.Greatest.{first-greatest, greatest-more, covered-at, greatest-covered, greatest-all, max-is}
@@ -41,7 +41,7 @@ returns-else-areas-ne0 c =
     let f = c.args.self.now.section.stands in
     let gs = elements s.section.groups in
     let z = ap (λ (x : Areas). x.supercritical.0) (sym c.requires) ∙ c.if-areas-ne0.false in
-    let n = none-covered s.ice s.pressure gs (section-known s f).groups z in
+    let n = all-covered s.ice s.pressure gs (section-known s f).groups z in
     let all : 0 + length gs ≡ length gs = omega arith in
     record {
       areas = c.requires;
