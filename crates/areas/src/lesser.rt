@@ -1,5 +1,5 @@
 // Document 02, M-103: the lesser winds of a section's groups.
-ghost use Rattle.std.specs.Prelude.{◌≡◌, true, ◌*◌, ◌/◌, ◌≤◌, ◌<◌, take, length, IfSome, option_to_list};
+ghost use Rattle.std.specs.Prelude.{◌≡◌, true, false, ◌*◌, ◌/◌, ◌≤◌, ◌<◌, take, length, IfSome, option_to_list};
 ghost use Rattle.model.specs.Lists.{any_of};
 ghost use Rattle.model.specs.Areas.{size_of, flow_limit, lesser_of};
 ghost use Rattle.areas.specs.LesserPressures.{turns_above, Needless, WindOf};
@@ -58,15 +58,17 @@ impl<'a> Face<'a> {
     #[tactic(auto, using(crate::proofs::LesserPressures::came_before))]
     fn is_needless(&self, t: Length, q: u16, p: u16, i: usize) -> bool
         requires { (i < length self.now.groups.now) × (p < q) }
-        ensures { result ≡ true → Needless t q self.now.groups.now i p }
+        ensures needless { result ≡ true → Needless t q self.now.groups.now i p }
+        ensures worked_out { result ≡ false → q < 4 * p }
     {
         4 * (p as u32) <= q as u32 || self.came_before(t, p, i)
     }
 
-    // The lesser wind that the section is to be worked out in for group i, if there is one.
+    // The lesser wind that the section is to be worked out in for group i, if there is one. It is above a quarter of q.
     pub fn lesser_wind(&self, t: Length, q: u16, i: usize) -> Option<u16>
         requires { i < length self.now.groups.now }
-        ensures { WindOf t q self.now.groups.now i result }
+        ensures wind { WindOf t q self.now.groups.now i result }
+        ensures above_quarter { IfSome result (λ p. q < 4 * p) }
     {
         let pressure = lesser_pressure(t, q, self.groups[i].member)?;
         (!self.is_needless(t, q, pressure, i)).then_some(pressure)

@@ -11,7 +11,7 @@ ghost use Rattle.call_bench.specs.Repeated.{windy, once, dish, first_in, After, 
 
 use model::{Item, Refusal, Wind};
 use service::answers::report;
-use service::changes::{erect, hang, set_wind, take_down};
+use service::changes::{erect, fresh, hang, set_wind, take_down};
 use slots::head::is_standing;
 use slots::items::{item_of, item_slots};
 use slots::{EMPTY, State};
@@ -23,6 +23,7 @@ fn windy(file: &[u8], wind: Wind) -> State
     ensures { state_of result ≡ windy file.now (wind_of wind.entry) }
 {
     let mut state = EMPTY;
+    fresh(&mut state);
     let _ = erect(&mut state, file);
     let _ = set_wind(&mut state, wind);
     state

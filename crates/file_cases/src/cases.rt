@@ -1,5 +1,5 @@
 // What a line is, and its numbers.
-ghost use Rattle.std.specs.Prelude.{◌≡◌};
+ghost use Rattle.std.specs.Prelude.{◌≡◌, ◌≤◌, length, IfOk};
 ghost use Rattle.file_cases.specs.Cases.{kind_byte, kind_in};
 
 use crate::wrong::Wrong;
@@ -44,7 +44,9 @@ pub(crate) fn numbers_in<'a>(
     kind: Kind,
     line: &[u8],
     out: &'a mut [u64],
-) -> Result<&'a [u64], Wrong> {
+) -> Result<&'a [u64], Wrong>
+    ensures { IfOk result (λ numbers. length numbers.now ≤ length out.old) }
+{
     match line.get(2..) {
         Some(text) => Ok(numbers_of(text, out)?),
         None if kind == Kind::File => Ok(&[]),

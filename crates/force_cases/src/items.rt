@@ -1,7 +1,8 @@
 // The items of a case.
-ghost use Rattle.std.specs.Prelude.{◌≡◌, false, IfOk, IfErr};
+ghost use Rattle.std.specs.Prelude.{◌≡◌, ◌+◌, ◌*◌, ◌≤◌, true, false, length, IsOk, IfOk, IfErr};
 ghost use Rattle.model.specs.Lists.{all_of};
 ghost use Rattle.model.specs.File.{fields_in_range};
+ghost use Rattle.case_words.specs.Words.{at};
 ghost use Rattle.force_cases.specs.Items.{items_at, HoldsItems};
 
 use crate::wrong::Wrong;
@@ -16,6 +17,8 @@ use slots::items::item_slot;
 pub(crate) fn item_slots(numbers: &[u64], place: usize) -> Result<ArrayVec<Slot, 64>, Wrong>
     ensures held { IfOk result (λ slots. HoldsItems numbers.now place slots.items) }
     ensures fit { IfErr result (λ wrong. wrong ≡ Wrong.Item → all_of fields_in_range (items_at numbers.now place) ≡ false) }
+    ensures taken { at numbers.now place ≤ 64 → length numbers.now ≡ place + 1 + 6 * at numbers.now place
+        → all_of fields_in_range (items_at numbers.now place) ≡ true → IsOk result }
 {
     let held = *numbers.get(place).ok_or(Wrong::Case(Fault::Missing))?;
     if 64 < held {

@@ -1,5 +1,5 @@
 -- What a line does: the state after it, and the text that is printed.
-use Rattle.std.specs.Prelude.{ℕ, ◌≡◌, List, length}
+use Rattle.std.specs.Prelude.{ℕ, ◌≡◌, ◌≤◌, List, length}
 use Rattle.lines.specs.Text.{Puts}
 use Rattle.slots.specs.Held.{Slots, state_of}
 use Rattle.requests.specs.Asked.{Asked, Room}
@@ -16,6 +16,11 @@ pub record Responds (a : Asked) (old new : Slots) (before out : List ℕ) (n : �
   pub state : state_of new ≡ after (state_of old) a
   pub text : Puts (answer_text (state_of old) a) before 0 out n
   pub untouched : Leaves (state_of old) a → new ≡ old
+
+-- n is the length of the text, where there is room for it
+pub record AnswerLength (a : Asked) (old : Slots) (room n : ℕ) : Type 0 where
+  pub within : n ≤ room
+  pub whole : length (answer_text (state_of old) a) ≤ room → n ≡ length (answer_text (state_of old) a)
 
 -- each slice is still the one that was lent, and as long
 pub record SameSlices (old new : Buffers) : Type 0 where

@@ -1,10 +1,10 @@
 // The answer to a line, as text.
-ghost use Rattle.std.specs.Prelude.{◌≡◌, length};
+ghost use Rattle.std.specs.Prelude.{◌≡◌, length, IfOk};
 ghost use Rattle.requests.specs.Asked.{asked_in};
 ghost use Rattle.requests.specs.Decoded.{room_of};
 ghost use Rattle.slots.specs.Held.{state_of};
 ghost use Rattle.handler.specs.RequestSteps.{after};
-ghost use Rattle.handler.specs.Responds.{room_in, Responds, SameSlices};
+ghost use Rattle.handler.specs.Responds.{room_in, Responds, AnswerLength, SameSlices};
 
 use crate::Buffers;
 use crate::step::step_line;
@@ -45,16 +45,20 @@ pub fn respond(s: &mut State, line: &[u8], buffers: &mut Buffers<'_>) -> usize
     )
 }
 
-// Writes the answer to a line.
+// Writes the answer to a line, and returns its length. What the line does to the state is done also where the answer
+// cannot be written.
 pub fn answer(
     rt: &impl Print,
     s: &mut State,
     line: &[u8],
     buffers: &mut Buffers<'_>,
-) -> io::Result<()>
+) -> io::Result<usize>
+    ensures long { IfOk result (AnswerLength (asked_in (room_in buffers.old) line.now) s.old
+        (length buffers.old.out.now)) }
     ensures state { state_of s.new ≡ after (state_of s.old) (asked_in (room_in buffers.old) line.now) }
     ensures same { SameSlices buffers.old buffers.new }
 {
     let length = respond(s, line, buffers);
-    rt.write_all(&buffers.out[..length])
+    rt.write_all(&buffers.out[..length])?;
+    Ok(length)
 }

@@ -11,7 +11,7 @@ use crate::pressure_bytes::pressures_asked;
 use crate::row_bytes::write_report;
 use model::numbers::answer_number;
 use model::{Refusal, Wind};
-use service::changes::{erect, set_wind};
+use service::changes::{erect, fresh, set_wind};
 use slots::EMPTY;
 use slots::head::count_in;
 
@@ -27,6 +27,7 @@ fn report_rows(
     ensures { Hosts file.now direction ice factor pressures.now rows.old rows.new (answer_number result) }
 {
     let mut state = EMPTY;
+    fresh(&mut state);
     erect(&mut state, file)?;
     let pressures = pressures_asked(count_in(&state), pressures);
     let wind = Wind {

@@ -2,7 +2,7 @@
 use draws::keys::Key;
 use draws::towers::{bare_file, sound_item};
 use model::{Item, Wind};
-use service::changes::{erect, hang, set_wind};
+use service::changes::{erect, fresh, hang, set_wind};
 use slots::{EMPTY, State};
 
 // What the tower and its items are drawn from.
@@ -22,6 +22,7 @@ impl Site {
     // A fresh service with the tower and so many of its items, hung in rising order, and no wind yet.
     pub(crate) fn raised(self, items: u16) -> State {
         let mut state = EMPTY;
+        fresh(&mut state);
         let _ = erect(&mut state, &bare_file(self.key, self.sections).bytes);
         for number in 0..items {
             let _ = hang(&mut state, self.item(number));

@@ -5,6 +5,7 @@
 use handler::respond::answer;
 use handler::{Buffers, FILE, NUMBERS, ROWS, TEXT};
 use lines::input::read_within;
+use service::changes::fresh;
 use slots::EMPTY;
 use std::io;
 
@@ -17,6 +18,7 @@ fn print_line(rt: &impl Print, line: &[u8]) -> io::Result<()> {
 
 fn answer_all(rt: &impl Print, text: &[u8], buffers: &mut Buffers<'_>) -> io::Result<()> {
     let mut state = EMPTY;
+    fresh(&mut state);
     for line in text.split_inclusive(|b| *b == b'\n') {
         let line = line.strip_suffix(b"\n").unwrap_or(line);
         if line.starts_with(b"#") {

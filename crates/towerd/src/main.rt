@@ -10,6 +10,7 @@ use handler::respond::answer;
 use handler::{Buffers, FILE, NUMBERS, ROWS, TEXT};
 use replies::text::put_message;
 use requests::Fault;
+use service::changes::fresh;
 use slots::EMPTY;
 use std::io;
 use std::io::Read;
@@ -37,6 +38,7 @@ fn serve(
     buffers: &mut Buffers<'_>,
 ) -> io::Result<()> {
     let mut state = EMPTY;
+    fresh(&mut state);
     let mut input = Input {
         at: 0,
         end: 0,

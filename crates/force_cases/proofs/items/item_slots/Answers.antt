@@ -1,6 +1,6 @@
 use Rattle.std.proofs.Common.{◌≡◌, ℕ, ◌+◌, ◌<◌, ◌∷◌, [], length, drop, true, false, refl, sym, ap, ◌∙◌, arith, rules}
 use Rattle.std.proofs.lemmas.List.{map-append, length-drop, take_rest}
-use Rattle.exact.proofs.Bools.{and-join}
+use Rattle.exact.proofs.Bools.{and-join, clash}
 use Rattle.model.specs.declared.Item.{Item}
 use Rattle.model.specs.Lists.{list_to}
 use Rattle.model.specs.File.{fields_in_range}
@@ -39,6 +39,9 @@ returns-then-not-fields_in_range-clause-fit c =
     let e : fields_in_range (f i) ≡ false = ap fields_in_range (sym same) ∙ sym c.if-not-fields_in_range.ensures in
     let more : i < at ws c.args.place = omega (arith, six-more _ _ _ six s.1.0, held, c.loop-fields.invariant.long) in
     λ _. all-not fields_in_range f (at ws c.args.place) i more e
+
+pub returns-then-not-fields_in_range-clause-taken : goal.returns-then-not-fields_in_range-clause-taken
+returns-then-not-fields_in_range-clause-taken c = λ _ _ e. absurd (clash e (returns-then-not-fields_in_range-clause-fit c refl))
 
 pub loop-fields-preserved : goal.loop-fields-preserved
 loop-fields-preserved c =

@@ -22,10 +22,10 @@ loop-i-preserved c =
     let h = rw c.face-face.ensures at c.loop-i-test.true in
     elim c.match-lesser_wind.branch [
       | in-Some w ↦
-          let n = rw c.face-face.ensures at w.in-Some.ensures in
+          let n = rw c.face-face.ensures at w.in-Some.ensures.wind in
           let most : w.max-force.result.0 ≡ greater l.force.0 w.formula_force-in-Some.result.value.0 = ap (λ (x : Force). x.0) w.max-force.ensures ∙ max-is _ _ in
           rw (w.force-is, most) (greatest-more s f l.i h l.invariant w.in-Some.pressure (n.lesser no_group) w.formula_force-in-Some.ensures)
-      | in_default w ↦ rw w.force-is (covered-at s f l.i h l.invariant (rw c.face-face.ensures at w.in_default.ensures))
+      | in_default w ↦ rw w.force-is (covered-at s f l.i h l.invariant (rw c.face-face.ensures at w.in_default.ensures.wind))
     ]
 
 pub returns-after-loop-i : goal.returns-after-loop-i
