@@ -3,7 +3,7 @@ ghost use Rattle.std.specs.Prelude.{◌≡◌, ◌≤◌, length, IfOk};
 ghost use Rattle.file_cases.specs.Cases.{kind_byte, kind_in};
 
 use crate::wrong::Wrong;
-use lines::numbers::numbers_of;
+use lines::numbers::lent_numbers;
 
 // By its first byte: f, c, s, a or r.
 #[derive(Clone, Copy, Debug, PartialEq, Eq)]
@@ -48,7 +48,7 @@ pub(crate) fn numbers_in<'a>(
     ensures { IfOk result (λ numbers. length numbers.now ≤ length out.old) }
 {
     match line.get(2..) {
-        Some(text) => Ok(numbers_of(text, out)?),
+        Some(text) => Ok(lent_numbers(text, out)?),
         None if kind == Kind::File => Ok(&[]),
         None => Err(Wrong::Count),
     }

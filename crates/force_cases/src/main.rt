@@ -13,7 +13,7 @@ use case_words::case_of;
 use case_words::faults::{groups_end, test_case};
 use force::{Load, Way};
 use lines::input::read_within;
-use lines::numbers::numbers_of;
+use lines::numbers::lent_numbers;
 use slots::items::item_sums;
 use std::io;
 
@@ -65,7 +65,7 @@ fn answer_numbers(numbers: &[u64]) -> Result<Answer, Wrong> {
 }
 
 fn answer_line(line: &[u8], numbers: &mut [u64]) -> Result<Answer, Wrong> {
-    answer_numbers(numbers_of(line, numbers)?)
+    answer_numbers(lent_numbers(line, numbers)?)
 }
 
 fn answer_all(rt: &impl Print, text: &[u8]) -> io::Result<()> {

@@ -7,7 +7,7 @@ ghost use Rattle.handler.specs.RequestSteps.{RequestSteps};
 use crate::answers::{check_by, help_by, report_by, write_by};
 use crate::changes::{hang_by, take_down_by, wind_by};
 use replies::{Message, Reply};
-use requests::line::read_line;
+use requests::line::lent_request;
 use requests::{Request, Verb};
 use service::changes::erect;
 use slots::State;
@@ -46,7 +46,7 @@ pub(crate) fn step_line<'a>(
     ensures { RequestSteps (asked_in (room_of (length numbers.old) (length rows.old) (length file.old)) line.now)
         s.old s.new result }
 {
-    match read_line(line, numbers, file)? {
+    match lent_request(line, numbers, file)? {
         Request::Numbered(verb, args) => step_by(s, verb, args, rows, file),
         Request::Erect(bytes) => {
             erect(s, bytes)?;

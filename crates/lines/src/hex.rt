@@ -30,7 +30,7 @@ fn pair_value(pair: &[u8]) -> Option<u8>
 }
 
 // Puts the bytes of a text at the start of out, and answers how many they are.
-pub fn fill_hex(text: &[u8], out: &mut [u8]) -> Result<usize, HexError>
+pub fn read_hex(text: &[u8], out: &mut [u8]) -> Result<usize, HexError>
     ensures value { filled out.new result ≡ bytes_in (length out.old) text.now }
     ensures within { IfOk result (λ count. count ≤ length out.old) }
 {
@@ -48,11 +48,11 @@ pub fn fill_hex(text: &[u8], out: &mut [u8]) -> Result<usize, HexError>
 }
 
 // The bytes of a text, which are put at the start of out.
-pub fn read_hex<'a>(text: &[u8], out: &'a mut [u8]) -> Result<&'a [u8], HexError>
+pub fn lent_hex<'a>(text: &[u8], out: &'a mut [u8]) -> Result<&'a [u8], HexError>
     ensures value { result_copied result ≡ bytes_in (length out.old) text.now }
     ensures within { IfOk result (λ bytes. length bytes.now ≤ length out.old) }
 {
-    let count = fill_hex(text, out)?;
+    let count = read_hex(text, out)?;
     Ok(&out[..count])
 }
 

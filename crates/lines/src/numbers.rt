@@ -37,7 +37,7 @@ fn digit_value(digit: u8) -> Option<u64>
 }
 
 // Puts the numbers of a line, with one space between two, at the start of out, and answers how many they are.
-pub fn fill_numbers(line: &[u8], out: &mut [u64]) -> Result<usize, NumbersError>
+pub fn numbers_of(line: &[u8], out: &mut [u64]) -> Result<usize, NumbersError>
     ensures value { filled out.new result ≡ numbers_in (length out.old) line.now }
     ensures within { IfOk result (λ count. count ≤ length out.old) }
 {
@@ -65,10 +65,10 @@ pub fn fill_numbers(line: &[u8], out: &mut [u64]) -> Result<usize, NumbersError>
 }
 
 // The numbers of a line, which are put at the start of out.
-pub fn numbers_of<'a>(line: &[u8], out: &'a mut [u64]) -> Result<&'a [u64], NumbersError>
+pub fn lent_numbers<'a>(line: &[u8], out: &'a mut [u64]) -> Result<&'a [u64], NumbersError>
     ensures value { result_copied result ≡ numbers_in (length out.old) line.now }
     ensures within { IfOk result (λ numbers. length numbers.now ≤ length out.old) }
 {
-    let count = fill_numbers(line, out)?;
+    let count = numbers_of(line, out)?;
     Ok(&out[..count])
 }

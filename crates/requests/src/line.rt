@@ -8,8 +8,8 @@ ghost use Rattle.requests.specs.Decoded.{Decoded, Within, asked_from, Filled, Co
 
 use crate::words::word_of;
 use crate::{Fault, LentRequest, Request, Word};
-use lines::hex::fill_hex;
-use lines::numbers::fill_numbers;
+use lines::hex::read_hex;
+use lines::numbers::numbers_of;
 
 // The bytes of the longest request: an erect with 3000 bytes.
 pub const LONGEST: usize = 6006;
@@ -57,14 +57,14 @@ fn fill_text(
     ensures within { IfOk result (CountWithin (length numbers.old) (length file.old)) }
 {
     match word {
-        Word::Numbered(verb) => Ok(Request::Numbered(verb, fill_numbers(text, numbers)?)),
-        Word::Erect => Ok(Request::Erect(fill_hex(text, file)?)),
+        Word::Numbered(verb) => Ok(Request::Numbered(verb, numbers_of(text, numbers)?)),
+        Word::Erect => Ok(Request::Erect(read_hex(text, file)?)),
     }
 }
 
 // A line, without its end, as a request with how many numbers or bytes it has.
 #[tactic(auto, unfolding(crate::specs::Asked::asked_in))]
-pub fn fill_line(
+pub fn read_line(
     line: &[u8],
     numbers: &mut [u64],
     file: &mut [u8],
@@ -85,7 +85,7 @@ pub fn fill_line(
 }
 
 // The same as a request with these themselves.
-pub fn read_line<'n, 'f>(
+pub fn lent_request<'n, 'f>(
     line: &[u8],
     numbers: &'n mut [u64],
     file: &'f mut [u8],
@@ -93,7 +93,7 @@ pub fn read_line<'n, 'f>(
     ensures asks { Decoded (λ room. asked_in room line.now) (length numbers.old) (length file.old) result }
     ensures within { IfOk result (Within (length numbers.old) (length file.old)) }
 {
-    Ok(match fill_line(line, numbers, file)? {
+    Ok(match read_line(line, numbers, file)? {
         Request::Numbered(verb, count) => Request::Numbered(verb, &numbers[..count]),
         Request::Erect(count) => Request::Erect(&file[..count]),
     })

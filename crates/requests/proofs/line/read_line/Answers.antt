@@ -1,4 +1,4 @@
-use Rattle.requests.proofs.line.fill_line.Goals as goal
+use Rattle.requests.proofs.line.read_line.Goals as goal
 
 pub returns-in-None-clause-within : goal.returns-in-None-clause-within
 returns-in-None-clause-within c = c.read_word.ensures.within _ _

@@ -1,6 +1,6 @@
 use Rattle.std.proofs.Common.{◌≡◌, length}
 use Rattle.lines.proofs.Pairs.{Paired}
-use Rattle.lines.proofs.hex.fill_hex.Given as goal
+use Rattle.lines.proofs.hex.read_hex.Given as goal
 
 abbrev pub invariant-loop-i : goal.invariant-loop-i
 invariant-loop-i l =

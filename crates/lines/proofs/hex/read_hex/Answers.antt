@@ -2,7 +2,7 @@ use Rattle.std.proofs.Common.{◌≡◌, sym, ◌∙◌, arith}
 use Rattle.std.proofs.lemmas.Result.{err_from_is_err_and}
 use Rattle.lines.specs.declared.hex.HexError.TheVariants.{Bad}
 use Rattle.lines.proofs.Pairs.{no_pair, paired_more, paired_all}
-use Rattle.lines.proofs.hex.fill_hex.Goals as goal
+use Rattle.lines.proofs.hex.read_hex.Goals as goal
 
 pub returns-in_err-out-clause-value : goal.returns-in_err-out-clause-value
 returns-in_err-out-clause-value c =

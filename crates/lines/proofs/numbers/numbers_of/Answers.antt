@@ -1,7 +1,7 @@
 use Rattle.std.proofs.Common.{arith}
 use Rattle.lines.proofs.Taking.{nothing_taken, no_number, no_room, too_large, no_space, first_taken, digit_taken, number_taken}
-use Rattle.lines.proofs.numbers.fill_numbers.Goals as goal
-use Rattle.lines.proofs.numbers.fill_numbers.Goals.{in-None-Some-2, in-Some-Some-2, in-Some-None-2}
+use Rattle.lines.proofs.numbers.numbers_of.Goals as goal
+use Rattle.lines.proofs.numbers.numbers_of.Goals.{in-None-Some-2, in-Some-Some-2, in-Some-None-2}
 
 pub loop-b-init : goal.loop-b-init
 loop-b-init c = nothing_taken _ _
