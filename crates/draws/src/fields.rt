@@ -6,7 +6,7 @@ use model::Range;
 
 // What the fields of a part are drawn from. A field is wrong once in `odds` cases, or never.
 #[derive(Clone, Copy)]
-pub(crate) struct Draws {
+pub struct Draws {
     pub key: Key,
     pub odds: Option<u64>,
 }

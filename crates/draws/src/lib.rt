@@ -8,3 +8,7 @@ pub mod files;
 pub mod keys;
 mod sections;
 pub mod towers;
+
+pub use arguments::DrawnWind;
+pub use fields::Draws;
+pub use files::File;

@@ -6,3 +6,5 @@ pub mod groups;
 pub mod items;
 pub mod parts;
 pub mod sections;
+
+pub use sections::Head;

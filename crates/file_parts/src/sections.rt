@@ -21,11 +21,11 @@ use units::{Force, Length};
 
 // What a section has before its groups.
 #[derive(Clone, Copy)]
-struct Head {
-    width: Length,
-    height: Length,
-    allowance: Force,
-    count: usize,
+pub struct Head {
+    pub width: Length,
+    pub height: Length,
+    pub allowance: Force,
+    pub count: usize,
 }
 
 fn read_head(file: &[u8]) -> Parsed<Head>
