@@ -35,7 +35,7 @@ extern "C" {
 
 /*
  * Stack that a thread should have left for a call. It is measured, not proved:
- * examples/c/limits.c found 27 831 bytes in use on the largest tower. The rest
+ * examples/c/limits.c found 27 895 bytes in use on the largest tower. The rest
  * is for a loader that binds memcpy on its first call.
  */
 #define DEMBYHAI_STACK_BYTES 81920

@@ -11,8 +11,8 @@ ghost use Rattle.areas.specs.Sums.{SmallAreas};
 use crate::ice::Ice;
 use crate::section::{add_group, gross_area};
 use model::ranges::{
-    COEFFICIENTS, ITEM_LENGTH, ITEM_WIDTH, MEMBER_LENGTH, MEMBER_SIZE,
-    POSITION_FACTOR, SECTION_HEIGHT, SECTION_WIDTH,
+    COEFFICIENTS, ITEM_LENGTH, ITEM_WIDTH, MEMBER_LENGTH, MEMBER_SIZE, POSITION_FACTOR,
+    SECTION_HEIGHT, SECTION_WIDTH,
 };
 use model::{Areas, Group, Item, Section};
 use units::Length;

@@ -41,15 +41,15 @@ groups_of ws =
     record {
       count = in32 (at ws 7);
       places =
-        group_of ws 0
-        ∷ group_of ws 1
-        ∷ group_of ws 2
-        ∷ group_of ws 3
-        ∷ group_of ws 4
-        ∷ group_of ws 5
-        ∷ group_of ws 6
-        ∷ group_of ws 7
-        ∷ [];
+          group_of ws 0
+          ∷ group_of ws 1
+          ∷ group_of ws 2
+          ∷ group_of ws 3
+          ∷ group_of ws 4
+          ∷ group_of ws 5
+          ∷ group_of ws 6
+          ∷ group_of ws 7
+          ∷ [];
       whole = refl;
     }
 
