@@ -1,5 +1,5 @@
 // The member groups of a section.
-ghost use Rattle.std.specs.Prelude.{◌≡◌};
+ghost use Rattle.std.specs.Prelude.{◌≡◌, true};
 ghost use Rattle.model.specs.declared.Group.{Group};
 ghost use Rattle.model.specs.File.{read_group};
 ghost use Rattle.model.specs.Bytes.{group_bytes};
@@ -17,6 +17,8 @@ impl FromBytes for Group {
     ghost value_of = { λ group. group };
 
     ghost reading = { read_group };
+
+    ghost stored = { λ _. true };
 
     fn read(file: &[u8]) -> Parsed<Group> {
         let (kind, at) = read_ranged(file, 0, 1, MEMBER_KIND, Refusal::GroupField)?;

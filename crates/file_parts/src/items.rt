@@ -1,5 +1,5 @@
 // The ancillary items, in hanging order.
-ghost use Rattle.std.specs.Prelude.{◌%◌, ◌≤◌, ◌<◌, ◌≡◌, List, [], ◌∷◌, ◌++◌, length};
+ghost use Rattle.std.specs.Prelude.{◌%◌, ◌≤◌, ◌<◌, ◌≡◌, List, [], ◌∷◌, ◌++◌, length, IfOk};
 ghost use Rattle.counted.specs.Elements.{elements, element_count};
 ghost use Rattle.model.specs.declared.Item.{Item};
 ghost use Rattle.model.specs.File.{numbered, read_item_fields, read_items};
@@ -29,6 +29,7 @@ struct Numbered {
     items: Counted<Item, 64>,
     marks: [bool; MARKS],
     ghost marked: { Marked marks (elements items) },
+    ghost few: { items.count ≤ 64 },
 }
 
 impl Numbered {
@@ -101,7 +102,8 @@ fn read_item_rest(file: &[u8], sections: usize, number: u16) -> Parsed<Item>
 // So many items. Whether one is read depends on those before it, so read_each does not serve.
 fn read_items(file: &[u8], sections: usize, count: usize) -> Parsed<Counted<Item, 64>>
     requires { count ≤ 64 }
-    ensures { ReadsAs (λ read. elements read.0) (λ read. read.1) file.now (read_items sections count file.now) result }
+    ensures says { ReadsAs (λ read. elements read.0) (λ read. read.1) file.now (read_items sections count file.now) result }
+    ensures count { IfOk result (λ read. read.0.count ≤ 64) }
 {
     let mut earlier = Numbered::new();
     let mut at = 0;
@@ -122,7 +124,8 @@ fn read_items(file: &[u8], sections: usize, count: usize) -> Parsed<Counted<Item
 
 // Their count, then the items.
 pub fn read_item_part(file: &[u8], sections: usize) -> Parsed<Counted<Item, 64>>
-    ensures { ReadsAs (λ read. elements read.0) (λ read. read.1) file.now (read_item_part sections file.now) result }
+    ensures says { ReadsAs (λ read. elements read.0) (λ read. read.1) file.now (read_item_part sections file.now) result }
+    ensures count { IfOk result (λ read. read.0.count ≤ 64) }
 {
     let (count, at) = read_ranged(file, 0, 1, ITEM_COUNT, Refusal::ItemCount)?;
     let (items, used) = read_items(&file[at..], sections, count as usize)?;

@@ -1,7 +1,7 @@
 // Parts of one kind, one behind another.
-ghost use Rattle.std.specs.Prelude.{ℕ, List, ◌+◌, ◌≤◌, length, map};
+ghost use Rattle.std.specs.Prelude.{ℕ, Bool, true, List, ◌≡◌, ◌+◌, ◌≤◌, length, map, IfOk};
 ghost use Rattle.counted.specs.Elements.{elements, element_count};
-ghost use Rattle.model.specs.Lists.{joined};
+ghost use Rattle.model.specs.Lists.{joined, all_of};
 ghost use Rattle.model.specs.Reading.{Parsed, many};
 ghost use Rattle.model.specs.Bytes.{bytes};
 ghost use Rattle.file_fields.specs.Outcomes.{ReadsAs};
@@ -20,8 +20,12 @@ pub trait FromBytes {
 
     ghost reading: { List ℕ → Parsed Value };
 
+    // Whether no count in it is beyond its array.
+    ghost stored: { Self → Bool };
+
     fn read(file: &[u8]) -> Parsed<Self>
-        ensures { ReadsAs (λ read. value_of read.0) (λ read. read.1) file.now (reading file.now) result };
+        ensures says { ReadsAs (λ read. value_of read.0) (λ read. read.1) file.now (reading file.now) result }
+        ensures stored { IfOk result (λ read. stored read.0 ≡ true) };
 }
 
 // Appends so many parts, in the file's order, and answers the place behind them.
@@ -31,8 +35,10 @@ pub fn read_each<T: FromBytes + Drop, const N: usize>(
     parts: &mut Counted<T, N>,
 ) -> Result<usize, Refusal>
     requires { element_count parts.old + count ≤ N }
-    ensures { ReadsAs (λ next. map T.value_of (elements parts.new)) (λ next. next) file.now
+    ensures says { ReadsAs (λ next. map T.value_of (elements parts.new)) (λ next. next) file.now
         (many (λ earlier. T.reading) count (map T.value_of (elements parts.old)) file.now) result }
+    ensures count { parts.old.count ≤ N → parts.new.count ≤ N }
+    ensures stored { all_of T.stored (elements parts.old) ≡ true → all_of T.stored (elements parts.new) ≡ true }
 {
     let mut at = 0;
     for _ in 0..count {

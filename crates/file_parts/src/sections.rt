@@ -7,6 +7,7 @@ ghost use Rattle.model.specs.File.{read_section};
 ghost use Rattle.model.specs.Bytes.{section_bytes};
 ghost use Rattle.file_fields.specs.Outcomes.{Reads};
 ghost use Rattle.file_parts.specs.Parts.{read_head};
+ghost use Rattle.file_parts.specs.Stored.{groups_stored};
 
 use crate::parts::{FromBytes, ToBytes, read_each, write_each};
 use areas::face::Face;
@@ -55,6 +56,8 @@ impl FromBytes for Section {
     ghost value_of = { section_of };
 
     ghost reading = { read_section };
+
+    ghost stored = { groups_stored };
 
     // Its bare A_S is tested after its last group.
     fn read(file: &[u8]) -> Parsed<Section> {

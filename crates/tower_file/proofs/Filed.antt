@@ -23,7 +23,7 @@ pub turned_down : {file : List ℕ} (e : Refusal) (r : Result stored.Tower Refus
     → ReadsFile file r
 turned_down e r h f =
     let y = err_from_is_err_and r h in
-    rw (y.1, y.2) (record { tower = f })
+    rw (y.1, y.2) (record { tower = f; counts = tt })
 
 -- whether bytes follow
 module _ (s : List ℕ) (n : ℕ) where

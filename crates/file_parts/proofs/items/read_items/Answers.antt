@@ -9,25 +9,25 @@ use Rattle.file_parts.proofs.Order.{number-first}
 use Rattle.file_parts.proofs.SoFar.{one_more, no_more, all_read}
 use Rattle.file_parts.proofs.items.read_items.Goals as goal
 
-pub returns-in_default : goal.returns-in_default
+pub returns-in_default-clause-says : goal.returns-in_default-clause-says
 unfolding read_items
-returns-in_default c =
+returns-in_default-clause-says c =
     let l = c.loop in
     let no = number-first c.args.sections (elements l.earlier.items) (drop l.at c.args.file.now)
     ∙ rw (field_barred 2 c.args.file.now l.at c.in_default.ensures) refl in
     record { says = no_more _ _ _ _ l.invariant.1 c.loop-test.true no }
 
-pub returns-then-contains : goal.returns-then-contains
+pub returns-then-contains-clause-says : goal.returns-then-contains-clause-says
 unfolding read_items
-returns-then-contains c =
+returns-then-contains-clause-says c =
     let l = c.loop in
     let no = number-first c.args.sections (elements l.earlier.items) (drop l.at c.args.file.now)
     ∙ rw (c.in-Ok.ensures.0.says.0, sym c.if-contains.ensures) refl in
     record { says = no_more _ _ _ _ l.invariant.1 c.loop-test.true no }
 
-pub returns-in_err-item : goal.returns-in_err-item
+pub returns-in_err-item-clause-says : goal.returns-in_err-item-clause-says
 unfolding read_items
-returns-in_err-item c =
+returns-in_err-item-clause-says c =
     let l = c.loop in
     let rest = read_item_rest c.args.sections c.in-Ok.number in
     let no = number-first c.args.sections (elements l.earlier.items) (drop l.at c.args.file.now)
@@ -45,6 +45,6 @@ loop-preserved c =
     let longer = length-append (elements l.earlier.items) (c.in_ok-item.item ∷ []) in
     rw c.push.ensures (omega (arith, longer, l.invariant.0), one_more _ _ _ _ l.invariant.1 c.loop-test.true (read, item.1))
 
-pub returns : goal.returns
+pub returns-clause-says : goal.returns-clause-says
 unfolding read_items
-returns c = record { says = all_read _ _ _ _ c.loop.invariant.1 c.loop-test.false }
+returns-clause-says c = record { says = all_read _ _ _ _ c.loop.invariant.1 c.loop-test.false }
