@@ -1,10 +1,28 @@
 // Reading into the buffer.
-ghost use Rattle.std.specs.Prelude.{◌≤◌, length, IfSome};
+ghost use Rattle.std.specs.Prelude.{◌+◌, ◌≤◌, length, IfSome};
 ghost use Rattle.towerd.specs.Buffered.{Buffered};
 
 use crate::Input;
 use requests::line::LONGEST;
 use std::io::Read;
+
+fn is_long(input: Input) -> bool
+    requires { input.at ≤ input.end }
+{
+    LONGEST < input.end - input.at
+}
+
+// How many of the bytes are kept: none of a line that is too long.
+fn kept(input: Input) -> usize
+    requires { input.at ≤ input.end }
+    ensures { input.at + result ≤ input.end }
+{
+    if is_long(input) {
+        0
+    } else {
+        input.end - input.at
+    }
+}
 
 // At the end of the input, what is left is a line.
 fn last_line(buf: &mut [u8], rest: usize, cut: bool) -> Option<Input>
@@ -36,9 +54,8 @@ pub(crate) fn refill(stdin: &mut impl Read, input: Input, buf: &mut [u8]) -> Opt
     if input.ended {
         return None;
     }
-    let is_long = LONGEST < input.end - input.at;
-    let cut = input.cut || is_long;
-    let kept = if is_long { 0 } else { input.end - input.at };
+    let cut = input.cut || is_long(input);
+    let kept = kept(input);
     buf.copy_within(input.at..input.at + kept, 0);
     let read = stdin.read(&mut buf[kept..]).unwrap_or(0);
     if read == 0 {
