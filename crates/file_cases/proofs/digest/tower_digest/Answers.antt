@@ -1,5 +1,6 @@
 use Rattle.std.proofs.Common.{[], ◌∷◌, map, length}
 use Rattle.std.proofs.lemmas.List.{length-map}
+use Rattle.counted.specs.Elements.{elements}
 use Rattle.model.specs.Lists.{joined}
 use Rattle.model.specs.Bytes.{legs_number}
 use Rattle.model.specs.Tower.{section_of}
@@ -23,7 +24,7 @@ returns c =
       c.mix_each-d.ensures,
       c.from.ensures,
       c.len.ensures.value,
-      joined-map section_values section_of t.sections.items,
-      length-map t.sections.items section_of,
+      joined-map section_values section_of (elements t.sections),
+      length-map (elements t.sections) section_of,
     )
-    (digest_parts start (legs_number t.legs ∷ length t.sections.items ∷ []) (joined section_values (map section_of t.sections.items)) (length t.items.items) (joined item_values t.items.items))
+    (digest_parts start (legs_number t.legs ∷ length (elements t.sections) ∷ []) (joined section_values (map section_of (elements t.sections))) (length (elements t.items)) (joined item_values (elements t.items)))
