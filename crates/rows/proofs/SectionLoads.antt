@@ -33,14 +33,14 @@ module _ {l : Slots} {c : LoadCase} (k : CaseOf l c) (i : ℕ) (h : i < count_in
   pressure-is = ap (λ (p : List ℕ). get_or p i 0) (pressures-are l) ∙ get_or-list_to (pressure_at l) 0 (count_in l) i h
 
   -- as its slots have it, where it stands; else the least one in its place
-  module _ (x : stored.Section) (read : section_of x ≡ section_as l i) (few : x.groups.count ≤ 8) where
+  module _ (x : stored.Section) (read : section_of x ≡ section_as l i) where
     pub good : fits_under c.ice.thickness x ≡ true → section_of x ≡ section_at l c.ice.thickness i
-    good e = (section-good c.ice.thickness c.ice.thin (slot l (1 + 2 * i)) (slot l (1 + 2 * i + 1)) x read few e).0
+    good e = (section-good c.ice.thickness c.ice.thin (slot l (1 + 2 * i)) (slot l (1 + 2 * i + 1)) x read e).0
 
-    pub bad : (y : stored.Section) → fits_under c.ice.thickness x ≡ false
+    pub bad : x.groups.count ≤ 8 → (y : stored.Section) → fits_under c.ice.thickness x ≡ false
         → (section_of y ≡ least_section) × ((t : Length) → t.0 ≤ 50 → fits_under t y ≡ true)
         → section_of y ≡ section_at l c.ice.thickness i
-    bad y e f = (section-bad c.ice.thickness c.ice.thin (slot l (1 + 2 * i)) (slot l (1 + 2 * i + 1)) x read few y e f).0
+    bad few y e f = (section-bad c.ice.thickness c.ice.thin (slot l (1 + 2 * i)) (slot l (1 + 2 * i + 1)) x read few y e f).0
 
   -- the section in its wind
   module _ (s : SectionInWind) (legs : s.legs ≡ c.legs) (direction : s.direction ≡ c.direction) (ice : s.ice ≡ c.ice.thickness) (factor : s.factor ≡ c.factor)

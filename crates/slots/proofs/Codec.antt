@@ -18,6 +18,7 @@ use Rattle.model.specs.Valid.{group_fits, section_fits}
 use Rattle.model.proofs.Lists.{all-at}
 use Rattle.model.proofs.Sections.{section-facts}
 use Rattle.areas.specs.Fits.{fits_under}
+use Rattle.areas.proofs.Fits.{under-facts}
 use Rattle.areas.proofs.Facts.{group-facts}
 use Rattle.exact.proofs.Bools.{and-join}
 use Rattle.slots.specs.Held.{
@@ -103,19 +104,19 @@ unfolding item_of
 item_back it a b d e f h = rw (mod-eq_of_lt a, mod-eq_of_lt b, mod-eq_of_lt d, mod-eq_of_lt e, mod-eq_of_lt f, h)
 
 -- a section that was read and stands, or the least one
-module _ (t : Length) (thin : t.0 ≤ 50) (a b : List ℕ) (x : stored.Section) (h : section_of x ≡ section_in a b) (few : x.groups.count ≤ 8) where
-  stands : {v : Bool} → fits_under t x ≡ v → stands_under t (section_in a b) ≡ v
-  stands e = ap (stands_under t) (sym h) ∙ sym (fits-stands t x thin few) ∙ e
+module _ (t : Length) (thin : t.0 ≤ 50) (a b : List ℕ) (x : stored.Section) (h : section_of x ≡ section_in a b) where
+  stands : x.groups.count ≤ 8 → {v : Bool} → fits_under t x ≡ v → stands_under t (section_in a b) ≡ v
+  stands few e = ap (stands_under t) (sym h) ∙ sym (fits-stands t x thin few) ∙ e
 
   pub section-good : fits_under t x ≡ true → (section_of x ≡ section_in_slots t a b) × (fits_under t x ≡ true)
   unfolding section_in_slots
-  section-good e = (h ∙ rw (stands e) refl, e)
+  section-good e = (h ∙ rw (stands (under-facts t x e).count e) refl, e)
 
-  pub section-bad : (y : stored.Section) → fits_under t x ≡ false
+  pub section-bad : x.groups.count ≤ 8 → (y : stored.Section) → fits_under t x ≡ false
       → (section_of y ≡ least_section) × ((t : Length) → t.0 ≤ 50 → fits_under t y ≡ true)
       → (section_of y ≡ section_in_slots t a b) × (fits_under t y ≡ true)
   unfolding section_in_slots
-  section-bad y e l = (l.0 ∙ rw (stands e) refl, l.1 t thin)
+  section-bad few y e l = (l.0 ∙ rw (stands few e) refl, l.1 t thin)
 
 -- put into its slots
 pub section-put : (l : Slots) (i : ℕ) (x : Section) (q : ℕ) → length l ≡ 129 → i < 32 → section_fits x ≡ true

@@ -13,7 +13,7 @@ returns-in-Some c =
     let k = c.args.self.now.stands in
     let x = c.section_as-section in
     let stands = sym c.in-Some.ensures.stands in
-    let read = good k c.args.i c.requires.count x.result x.ensures.section x.ensures.few stands in
+    let read = good k c.args.i c.requires.count x.result x.ensures.section stands in
     load_at k c.args.i c.requires.count _ refl refl refl refl read c.pressure_at-pressure.ensures c.requires.items stands c.measured_load.ensures c.new.ensures
 
 pub returns : goal.returns
