@@ -4,14 +4,14 @@ ghost use Rattle.model.specs.declared.Group.{Group};
 ghost use Rattle.model.specs.File.{read_group};
 ghost use Rattle.model.specs.Bytes.{group_bytes};
 
-use crate::parts::{FromBytes, ToBytes};
+use crate::parts::{FromBytes, StoredFromBytes, ToBytes};
 use file_fields::Parsed;
 use file_fields::fields::{read_ranged, write_field};
 use model::ranges::{MEMBER_KIND, MEMBER_LENGTH, MEMBER_SIZE};
 use model::{Group, Member, Refusal};
 use units::Length;
 
-impl FromBytes for Group {
+impl StoredFromBytes for Group {
     ghost Value = { Group };
 
     ghost value_of = { λ group. group };
@@ -20,13 +20,25 @@ impl FromBytes for Group {
 
     ghost stored = { λ _. true };
 
-    fn read(file: &[u8]) -> Parsed<Group> {
+    fn read_stored(file: &[u8]) -> Parsed<Group> {
         let (kind, at) = read_ranged(file, 0, 1, MEMBER_KIND, Refusal::GroupField)?;
         let (size, at) = read_ranged(file, at, 2, MEMBER_SIZE, Refusal::GroupField)?;
         let (length, next) = read_ranged(file, at, 4, MEMBER_LENGTH, Refusal::GroupField)?;
         let member = Member::of_kind(kind, Length(size));
         let length = Length(length);
         Ok((Group { member, length }, next))
+    }
+}
+
+impl FromBytes for Group {
+    ghost Value = { Group };
+
+    ghost value_of = { λ group. group };
+
+    ghost reading = { read_group };
+
+    fn read(file: &[u8]) -> Parsed<Group> {
+        Group::read_stored(file)
     }
 }
 

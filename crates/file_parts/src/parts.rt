@@ -1,5 +1,6 @@
 // Parts of one kind, one behind another.
 ghost use Rattle.std.specs.Prelude.{ℕ, Bool, true, List, ◌≡◌, ◌+◌, ◌≤◌, length, map, IfOk};
+ghost use Rattle.arrayvec.specs.ArrayVec.{array_vec_len};
 ghost use Rattle.counted.specs.Elements.{elements, element_count};
 ghost use Rattle.model.specs.Lists.{joined, all_of};
 ghost use Rattle.model.specs.Reading.{Parsed, many};
@@ -7,6 +8,7 @@ ghost use Rattle.model.specs.Bytes.{bytes};
 ghost use Rattle.file_fields.specs.Outcomes.{ReadsAs};
 ghost use Rattle.file_fields.specs.Written.{Puts};
 
+use arrayvec::ArrayVec;
 use counted::Counted;
 use file_fields::Parsed;
 use file_fields::fields::write_field;
@@ -20,16 +22,47 @@ pub trait FromBytes {
 
     ghost reading: { List ℕ → Parsed Value };
 
+    fn read(file: &[u8]) -> Parsed<Self>
+        ensures { ReadsAs (λ read. value_of read.0) (λ read. read.1) file.now (reading file.now) result };
+}
+
+// Appends so many parts to a vector, in the file's order, and answers the place behind them.
+pub fn read_each<T: FromBytes + Drop, const N: usize>(
+    file: &[u8],
+    count: usize,
+    parts: &mut ArrayVec<T, N>,
+) -> Result<usize, Refusal>
+    requires { array_vec_len parts.old + count ≤ N }
+    ensures { ReadsAs (λ next. map T.value_of parts.new.items) (λ next. next) file.now
+        (many (λ earlier. T.reading) count (map T.value_of parts.old.items) file.now) result }
+{
+    let mut at = 0;
+    for _index in 0..count {
+        let (part, used) = T::read(&file[at..])?;
+        parts.push(part);
+        at += used;
+    }
+    Ok(at)
+}
+
+// What is read from the bytes that remain, with no count in it beyond its array.
+pub trait StoredFromBytes {
+    ghost Value: { Type 0 };
+
+    ghost value_of: { Self → Value };
+
+    ghost reading: { List ℕ → Parsed Value };
+
     // Whether no count in it is beyond its array.
     ghost stored: { Self → Bool };
 
-    fn read(file: &[u8]) -> Parsed<Self>
+    fn read_stored(file: &[u8]) -> Parsed<Self>
         ensures says { ReadsAs (λ read. value_of read.0) (λ read. read.1) file.now (reading file.now) result }
         ensures stored { IfOk result (λ read. stored read.0 ≡ true) };
 }
 
-// Appends so many parts, in the file's order, and answers the place behind them.
-pub fn read_each<T: FromBytes + Drop, const N: usize>(
+// Appends so many of them, in the file's order, and answers the place behind them.
+pub fn read_each_stored<T: StoredFromBytes + Drop, const N: usize>(
     file: &[u8],
     count: usize,
     parts: &mut Counted<T, N>,
@@ -42,7 +75,7 @@ pub fn read_each<T: FromBytes + Drop, const N: usize>(
 {
     let mut at = 0;
     for _ in 0..count {
-        let (part, used) = T::read(&file[at..])?;
+        let (part, used) = T::read_stored(&file[at..])?;
         parts.push(part);
         at += used;
     }

@@ -1,15 +1,15 @@
 // The sections, from the top.
-ghost use Rattle.std.specs.Prelude.{◌≤◌, ◌≡◌, length, map};
+ghost use Rattle.std.specs.Prelude.{◌≤◌, ◌≡◌, true, length, map, IfOk};
 ghost use Rattle.model.specs.Lists.{joined};
 ghost use Rattle.model.specs.Tower as tower;
 ghost use Rattle.model.specs.Tower.{section_of};
 ghost use Rattle.model.specs.File.{read_section};
 ghost use Rattle.model.specs.Bytes.{section_bytes};
-ghost use Rattle.file_fields.specs.Outcomes.{Reads};
+ghost use Rattle.file_fields.specs.Outcomes.{Reads, ReadsAs};
 ghost use Rattle.file_parts.specs.Parts.{read_head};
 ghost use Rattle.file_parts.specs.Stored.{groups_stored};
 
-use crate::parts::{FromBytes, ToBytes, read_each, write_each};
+use crate::parts::{FromBytes, StoredFromBytes, ToBytes, read_each_stored, write_each};
 use areas::face::Face;
 use areas::ice::Ice;
 use areas::section::gross_area;
@@ -50,7 +50,7 @@ fn read_head(file: &[u8]) -> Parsed<Head>
     Ok((head, next))
 }
 
-impl FromBytes for Section {
+impl StoredFromBytes for Section {
     ghost Value = { tower.Section };
 
     ghost value_of = { section_of };
@@ -60,10 +60,10 @@ impl FromBytes for Section {
     ghost stored = { groups_stored };
 
     // Its bare A_S is tested after its last group.
-    fn read(file: &[u8]) -> Parsed<Section> {
+    fn read_stored(file: &[u8]) -> Parsed<Section> {
         let (head, at) = read_head(file)?;
         let mut groups = Counted::new();
-        let used = read_each(&file[at..], head.count, &mut groups)?;
+        let used = read_each_stored(&file[at..], head.count, &mut groups)?;
         let section = Section {
             width: head.width,
             height: head.height,
@@ -76,6 +76,21 @@ impl FromBytes for Section {
             return Err(Refusal::BareSolidity);
         }
         Ok((section, at + used))
+    }
+}
+
+impl FromBytes for Section {
+    ghost Value = { tower.Section };
+
+    ghost value_of = { section_of };
+
+    ghost reading = { read_section };
+
+    fn read(file: &[u8]) -> Parsed<Section>
+        ensures says { ReadsAs (λ read. section_of read.0) (λ read. read.1) file.now (read_section file.now) result }
+        ensures stored { IfOk result (λ read. groups_stored read.0 ≡ true) }
+    {
+        Section::read_stored(file)
     }
 }
 

@@ -9,7 +9,7 @@ ghost use Rattle.tower_file.specs.Written.{WritesFile};
 use counted::Counted;
 use file_fields::fields::{read_ranged, write_field};
 use file_parts::items::{ITEM_BYTES, read_item_part};
-use file_parts::parts::{read_each, write_each};
+use file_parts::parts::{read_each_stored, write_each};
 use file_parts::sections::sections_length;
 use model::ranges::{LEG_COUNT, SECTION_COUNT};
 use model::{Legs, Refusal, Tower};
@@ -22,7 +22,7 @@ pub fn read(file: &[u8]) -> Result<Tower, Refusal>
     let (count, at) = read_ranged(file, at, 1, SECTION_COUNT, Refusal::SectionCount)?;
     let count = count as usize;
     let mut sections = Counted::new();
-    let at = at + read_each(&file[at..], count, &mut sections)?;
+    let at = at + read_each_stored(&file[at..], count, &mut sections)?;
     let (items, used) = read_item_part(&file[at..], count)?;
     if at + used != file.len() {
         return Err(Refusal::BytesFollow);

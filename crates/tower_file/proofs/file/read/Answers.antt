@@ -27,8 +27,8 @@ returns-in_err-count c =
     turned_down _ _ c.from_residual-in_err-count.ensures.1
     (rw (items-last c.args.file.now, c.in_ok-legs.ensures.says.0, c.in_err-count.ensures.says) refl)
 
-pub read_each-requires : goal.read_each-requires
-read_each-requires c = rw c.new-sections.ensures.items (omega (arith, ranged-high 1 section_count 4 _ c.in_ok-count.ensures.says.0))
+pub read_each_stored-requires : goal.read_each_stored-requires
+read_each_stored-requires c = rw c.new-sections.ensures.items (omega (arith, ranged-high 1 section_count 4 _ c.in_ok-count.ensures.says.0))
 
 pub returns-in_err-at : goal.returns-in_err-at
 unfolding read_sections

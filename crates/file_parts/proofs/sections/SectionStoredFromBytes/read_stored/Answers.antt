@@ -3,13 +3,13 @@ use Rattle.std.proofs.lemmas.Bool.Decides.{nat_tests}
 use Rattle.model.proofs.Readings.{groups-fit}
 use Rattle.file_fields.proofs.Answered.{passed_on}
 use Rattle.file_parts.proofs.Order.{head_first, groups-behind, groups-barred, head-facts, too-solid, not-solid}
-use Rattle.file_parts.proofs.sections.SectionFromBytes.read.Goals as goal
+use Rattle.file_parts.proofs.sections.SectionStoredFromBytes.read_stored.Goals as goal
 
 pub returns-in_err-head-clause-says : goal.returns-in_err-head-clause-says
 returns-in_err-head-clause-says c = passed_on _ _ _ _ c.from_residual.ensures.1 (rw (head_first c.args.file.now, c.in_err-head.ensures.says) refl)
 
-pub read_each-requires : goal.read_each-requires
-read_each-requires c = rw c.new-groups.ensures.items (omega (arith, (head-facts _ c.in_ok-head.ensures.says.0).count))
+pub read_each_stored-requires : goal.read_each_stored-requires
+read_each_stored-requires c = rw c.new-groups.ensures.items (omega (arith, (head-facts _ c.in_ok-head.ensures.says.0).count))
 
 pub returns-in_err-used-clause-says : goal.returns-in_err-used-clause-says
 returns-in_err-used-clause-says c =

@@ -1,7 +1,7 @@
 use Rattle.std.proofs.Common.{refl}
 use Rattle.model.specs.File.{read_group}
 use Rattle.file_fields.proofs.Answered.{passed_on}
-use Rattle.file_parts.proofs.groups.GroupFromBytes.read.Goals as goal
+use Rattle.file_parts.proofs.groups.GroupStoredFromBytes.read_stored.Goals as goal
 
 pub returns-in_err-kind-clause-says : goal.returns-in_err-kind-clause-says
 unfolding read_group
